@@ -1,0 +1,110 @@
+-- The worked cases of paper 01 ("Near each edge"), one list under one claim: each answer of the rules is the right one.
+use Prim.Native.Nat.{ℕ, zero, suc, _+_, _%_, _/_}
+use mathlib.Core.Path.{_≡_, refl}
+use mathlib.Core.List.{List, [], _∷_, _++_}
+use mathlib.Core.Bool.{Bool, true, false}
+use lib.ListN.{replicate, take}
+use Rattle.format.specs.Bytes.{anyOf, anyBelow, allBelow, leastBelow, u32At, u64At, biased, sameAt, sameRange}
+use Rattle.format.specs.Names.{nameFile, nameDirectory, nameSubBlock, nameMetadata, nameAttachment, nameAttachmentDirectory, nameDeleted, markTile, containerMarker, maskGuid}
+use Rattle.format.specs.Checks.{rowsBelow}
+use Rattle.format.specs.Segments.{allocatedSize, usedSize, room, nextSegment, lengthBad, nameBad, allocatedBad, usedBad, endBad, sizesBad, roleBad, segmentRows, walkRows, walkedFrom, walked, segmentsRows, member, walkedAs}
+use Rattle.format.specs.File.{major, filePart, directoryPosition, metadataPosition, updatePending, attachmentDirectoryPosition, namesNone, namesNoneBut0, fileRows}
+use Rattle.format.specs.Entry.{pixelType, filePosition, entryPart, compression, dimensionCount, letter, start, size, storedField, stored, nextEntry, headBad, letterBad, tooFar, isPlane, sizeBad, dimensionBad, hasLetter, repeats, closesPlane, dimensionsBad, letterIndex, letterPlace, pixelBytes}
+use Rattle.format.specs.SubBlock.{metadataSize, attachmentSize, dataSize, fixedPart, copyBad, subBlockBad, pixelsSize, contentsBad, metadataPlace, pixelsPlace, attachmentPlace}
+use Rattle.format.specs.Masks.{isContainer, chunkSize, nextChunk, chunkBad, isMask, maskBad, maskRefused, maskWidth, maskHeight, maskStride, representation, chunkRows, chunksRows, maskByte, maskValid}
+use Rattle.format.specs.Directory.{entryCount, roomEnd, tileCount, entryPlace, directoryBad, headRows, tileRows, subBlockRows, attachmentRows, entryRows, directoryRows}
+use Rattle.format.specs.Attachments.{metadataRows, attachmentsRows}
+use Rattle.format.specs.Rules.{checks, verdict}
+use Rattle.format.specs.declared.Verdict.{Verdict}
+use Rattle.format.specs.declared.Verdict.the-variants.{Accepted, Refused}
+
+-- ---- the files of the cases
+
+-- the n bytes of x, little-endian
+unfoldable pub little : ℕ → ℕ → List ℕ
+little zero x = []
+little (suc n) x = x % 256 ∷ little n (x / 256)
+
+-- a segment of that name and AllocatedSize, with UsedSize 0, whose contents begin so and go on with zero bytes
+unfoldable pub segment : List ℕ → ℕ → List ℕ → List ℕ
+segment name allocated contents = take (32 + allocated) (name ++ little 8 allocated ++ little 8 0 ++ contents ++ replicate allocated 0)
+
+-- the file segment, allocated 96, that names the directory at 128 and nothing else
+unfoldable pub fileSegment : List ℕ
+fileSegment = segment nameFile 96 (little 4 1 ++ replicate 48 0 ++ little 8 128)
+
+-- 288 bytes: the file segment and an empty directory at 128 allocated 128
+unfoldable pub file288 : List ℕ
+file288 = fileSegment ++ segment nameDirectory 128 []
+
+-- a dimension of that letter, Start 0, Size 1, StoredSize 0
+unfoldable pub dimension1 : ℕ → List ℕ
+dimension1 x = little 4 x ++ little 4 0 ++ little 4 1 ++ little 4 0 ++ little 4 0
+
+-- an entry of one Gray8 pixel whose sub-block is at 384
+unfoldable pub entry1 : List ℕ
+entry1 = markTile ++ little 4 0 ++ little 8 384 ++ little 4 0 ++ little 4 0 ++ replicate 6 0 ++ little 4 2 ++ dimension1 88 ++ dimension1 89
+
+-- 736 bytes: one tile of one pixel, its attachment of 19 bytes marked as a container
+unfoldable pub file19 : List ℕ
+file19 =
+    fileSegment ++
+    (segment nameDirectory 224 (little 4 1 ++ replicate 124 0 ++ entry1) ++
+    segment nameSubBlock 320 (little 4 39 ++ little 4 19 ++ little 8 1 ++ entry1 ++ replicate 168 0 ++ containerMarker))
+
+-- a mask chunk of one line: width, height 1, that stride, and the line
+unfoldable pub mask1 : ℕ → ℕ → List ℕ → List ℕ
+mask1 width stride line = maskGuid ++ little 4 (16 + stride) ++ little 4 width ++ little 4 1 ++ little 4 0 ++ little 4 stride ++ line
+
+-- ---- questions, and what the rules answer
+
+pub data Question : Type 0 where
+  judge : List ℕ → Question
+  fixed : ℕ → Question
+  valid : List ℕ → ℕ → ℕ → Question
+
+pub data Answer : Type 0 where
+  verdict-is : Verdict → Answer
+  number : ℕ → Answer
+  flag : Bool → Answer
+
+abbrev pub answer : Question → Answer
+answer (judge bs) = verdict-is (verdict bs)
+answer (fixed n) = number (fixedPart n)
+answer (valid mask x y) = flag (maskValid mask 0 x y)
+
+pub record Case : Type 0 where
+  pub question : Question
+  pub right : Answer
+
+abbrev pub case : Question → Answer → Case
+case q a = record { question = q; right = a }
+
+abbrev pub AllRight : List Case → Type 0
+AllRight [] = Unit {0}
+AllRight (c ∷ cs) = (answer (c .question) ≡ c .right) × AllRight cs
+
+abbrev pub cases : List Case
+cases =
+    -- P1 the 288-byte file accepted
+    case (judge file288) (verdict-is Accepted) ∷
+    -- P2 the same cut to 256: refused 3 at 128
+    case (judge (take 256 file288)) (verdict-is (Refused 3 128)) ∷
+    -- P3 empty: 1
+    case (judge []) (verdict-is (Refused 1 0)) ∷
+    -- P4 10 dimensions: F 256
+    case (fixed 10) (number 256) ∷
+    -- P5 11: F 268
+    case (fixed 11) (number 268) ∷
+    -- P7 mask byte 80 hex, width 10, stride 2: x = 0 valid, 1 not
+    case (valid (mask1 10 2 (0x80 ∷ 0 ∷ [])) 0 0) (flag true) ∷
+    case (valid (mask1 10 2 (0x80 ∷ 0 ∷ [])) 1 0) (flag false) ∷
+    -- P8 mask width 3 on a tile 5 wide: x = 3 invalid, though its bit is one
+    case (valid (mask1 3 1 (0xff ∷ [])) 3 0) (flag false) ∷
+    -- P12 attachment of 19 bytes marked as container: 17
+    case (judge file19) (verdict-is (Refused 17 712)) ∷
+    []
+
+pub all-right : AllRight cases
+unfolding little segment fileSegment file288 dimension1 entry1 file19 mask1 anyOf anyBelow allBelow leastBelow u32At u64At biased sameAt sameRange nameFile nameDirectory nameSubBlock nameMetadata nameAttachment nameAttachmentDirectory nameDeleted markTile containerMarker maskGuid rowsBelow allocatedSize usedSize room nextSegment lengthBad nameBad allocatedBad usedBad endBad sizesBad roleBad segmentRows walkRows walkedFrom walked segmentsRows member walkedAs major filePart directoryPosition metadataPosition updatePending attachmentDirectoryPosition namesNone namesNoneBut0 fileRows pixelType filePosition entryPart compression dimensionCount letter start size storedField stored nextEntry headBad letterBad tooFar isPlane sizeBad dimensionBad hasLetter repeats closesPlane dimensionsBad letterIndex letterPlace pixelBytes metadataSize attachmentSize dataSize fixedPart copyBad subBlockBad pixelsSize contentsBad metadataPlace pixelsPlace attachmentPlace isContainer chunkSize nextChunk chunkBad isMask maskBad maskRefused maskWidth maskHeight maskStride representation chunkRows chunksRows maskByte maskValid entryCount roomEnd tileCount entryPlace directoryBad headRows tileRows subBlockRows attachmentRows entryRows directoryRows metadataRows attachmentsRows checks verdict
+all-right = (refl, (refl, (refl, (refl, (refl, (refl, (refl, (refl, (refl, tt)))))))))

@@ -1,0 +1,126 @@
+-- Laws of tests over the numbers below n, in the form that an ascending loop wants: it has shown the test of the numbers below i. Assumes nothing.
+use Prim.Native.Nat.{ℕ, zero, suc, _+_, _≤_, _<_}
+use mathlib.Core.Path.{_≡_, refl, sym, ap, _∙_}
+use mathlib.Core.List.{List, [], _∷_}
+use mathlib.Core.Bool.{Bool, true, false, cond, not, _&&_, _||_, or-true, and-false, true≢false}
+use mathlib.Core.Logic.{⊎-elim}
+use native.Mathlib.Nat.{eq-or-lt-of-le, le-of-suc-le-suc}
+use native.Mathlib.Omega.{arith}
+use native.Mathlib.Numerals.{add-one}
+use lib.ListN.{getD}
+use Rattle.format.specs.Bytes.{anyOf, anyBelow, allBelow, leastBelow}
+
+-- ---- bools
+
+pub or-none : (a b : Bool) → (a || b) ≡ false → (a ≡ false) × (b ≡ false)
+or-none true b e = absurd (true≢false e)
+or-none false b e = (refl, e)
+
+pub and-both : (a b : Bool) → (a && b) ≡ true → (a ≡ true) × (b ≡ true)
+and-both true b e = (refl, e)
+and-both false b e = absurd (true≢false (sym e))
+
+-- none of the tests holds: not the one at i
+pub none : (ts : List Bool) → anyOf ts ≡ false → (i : ℕ) → getD ts i false ≡ false
+unfolding anyOf
+none [] e i = refl
+none (t ∷ ts) e zero = or-none t (anyOf ts) e .0
+none (t ∷ ts) e (suc i) = none ts (or-none t (anyOf ts) e .1) i
+
+-- ---- some number below n
+
+pub any-zero : (t : ℕ → Bool) → anyBelow 0 t ≡ false
+unfolding anyBelow
+any-zero t = refl
+
+pub any-more : (i : ℕ) (t : ℕ → Bool) → anyBelow i t ≡ false → t i ≡ false → anyBelow (i + 1) t ≡ false
+unfolding anyBelow
+any-more i t e f = rw (add-one, e, f)
+
+pub any-found : (n i : ℕ) (t : ℕ → Bool) → i < n → t i ≡ true → anyBelow n t ≡ true
+unfolding anyBelow
+any-found zero i t h e = absurd (omega arith)
+any-found (suc n) i t h e =
+    ⊎-elim
+    (λ q. let f : t n ≡ true = rw (← q) e in rw f (or-true (anyBelow n t)))
+    (λ l. rw (any-found n i t l e))
+    (eq-or-lt-of-le (le-of-suc-le-suc h))
+
+pub any-none : (n i : ℕ) (t : ℕ → Bool) → anyBelow n t ≡ false → i < n → t i ≡ false
+any-none n i t e h = go (t i) refl
+  where
+    go : (b : Bool) → t i ≡ b → t i ≡ false
+    go true f = absurd (true≢false (sym (any-found n i t h f) ∙ e))
+    go false f = f
+
+pub any-intro : (n : ℕ) (t : ℕ → Bool) → ((i : ℕ) → i < n → t i ≡ false) → anyBelow n t ≡ false
+unfolding anyBelow
+any-intro zero t h = refl
+any-intro (suc n) t h = rw (any-intro n t (λ i l. h i (omega arith)), h n (omega arith))
+
+-- ---- every number below n
+
+pub all-zero : (t : ℕ → Bool) → allBelow 0 t ≡ true
+unfolding allBelow
+all-zero t = refl
+
+pub all-more : (i : ℕ) (t : ℕ → Bool) → allBelow i t ≡ true → t i ≡ true → allBelow (i + 1) t ≡ true
+unfolding allBelow
+all-more i t e f = rw (add-one, e, f)
+
+pub all-fails : (n i : ℕ) (t : ℕ → Bool) → i < n → t i ≡ false → allBelow n t ≡ false
+unfolding allBelow
+all-fails zero i t h e = absurd (omega arith)
+all-fails (suc n) i t h e =
+    ⊎-elim
+    (λ q. let f : t n ≡ false = rw (← q) e in rw f (and-false (allBelow n t)))
+    (λ l. rw (all-fails n i t l e))
+    (eq-or-lt-of-le (le-of-suc-le-suc h))
+
+pub all-at : (n i : ℕ) (t : ℕ → Bool) → allBelow n t ≡ true → i < n → t i ≡ true
+all-at n i t e h = go (t i) refl
+  where
+    go : (b : Bool) → t i ≡ b → t i ≡ true
+    go true f = f
+    go false f = absurd (true≢false (sym e ∙ all-fails n i t h f))
+
+pub all-intro : (n : ℕ) (t : ℕ → Bool) → ((i : ℕ) → i < n → t i ≡ true) → allBelow n t ≡ true
+unfolding allBelow
+all-intro zero t h = refl
+all-intro (suc n) t h = rw (all-intro n t (λ i l. h i (omega arith)), h n (omega arith))
+
+-- ---- the least number below n
+
+pub least-found : (n i : ℕ) (t : ℕ → Bool) → i < n → anyBelow i t ≡ false → t i ≡ true → leastBelow n t ≡ i
+unfolding leastBelow
+least-found zero i t h e f = absurd (omega arith)
+least-found (suc n) i t h e f =
+    ⊎-elim
+    (λ q. let a : anyBelow n t ≡ false = rw (← q) e in let b : t n ≡ true = rw (← q) f in rw (a, b) (sym q))
+    (λ l. rw (any-found n i t l f) (least-found n i t l e f))
+    (eq-or-lt-of-le (le-of-suc-le-suc h))
+
+pub least-none : (n : ℕ) (t : ℕ → Bool) → anyBelow n t ≡ false → leastBelow n t ≡ n
+unfolding leastBelow
+least-none zero t e = refl
+least-none (suc n) t e =
+    let a : anyBelow n t ≡ false = any-intro n t (λ i l. any-none (suc n) i t e (omega arith)) in
+    let b : t n ≡ false = any-none (suc n) n t e (omega arith) in
+    rw (a, b)
+
+-- what holds of some number below n holds of the least
+pub record Least (n : ℕ) (t : ℕ → Bool) : Type 0 where
+  pub below : leastBelow n t < n
+  pub holds : t (leastBelow n t) ≡ true
+
+pub least-is : (n : ℕ) (t : ℕ → Bool) → anyBelow n t ≡ true → Least n t
+unfolding anyBelow leastBelow
+least-is zero t e = absurd (true≢false (sym e))
+least-is (suc n) t e = go (anyBelow n t) refl (t n) refl e (λ a. least-is n t a)
+  where
+    go : (a : Bool) → anyBelow n t ≡ a → (b : Bool) → t n ≡ b → (a || b) ≡ true → (anyBelow n t ≡ true → Least n t) → Least (suc n) t
+    go true ea b eb e ih =
+        let l = ih ea in
+        record { below = rw ea (omega (arith, l .below)); holds = rw ea (l .holds) }
+    go false ea true eb e ih = record { below = rw (ea, eb) (omega arith); holds = rw (ea, eb) eb }
+    go false ea false eb e ih = absurd (true≢false (sym e))

@@ -1,0 +1,4 @@
+-- Laws of the rules.
+pub mod Flags
+pub mod Below
+pub mod Firsts

@@ -1,0 +1,156 @@
+-- What is handed out of an accepted file: the tile record, the dimension record, and the stretches of the views.
+use Prim.Native.Nat.{ℕ, _+_}
+use mathlib.Core.List.{List, [], _∷_, _++_}
+use mathlib.Core.Bool.{Bool, true, false, cond}
+use lib.Dec.{eqb, leb}
+use lib.Ieee.{ofBits, binary32}
+use Rattle.format.specs.Bytes.{anyBelow, signed32}
+use Rattle.format.specs.Checks.{row, first, ifAccepted}
+use Rattle.format.specs.File.{directoryPosition, metadataPosition, attachmentDirectoryPosition}
+use Rattle.format.specs.Entry.{pixelType, filePosition, pyramidByte, dimensionCount, letter, start, size, coordinateBits, stored, dimensionPlace, hasLetter, letterPlace}
+use Rattle.format.specs.SubBlock.{metadataSize, attachmentSize, dataSize, metadataPlace, pixelsPlace, attachmentPlace}
+use Rattle.format.specs.Masks.{isContainer, maskFrom}
+use Rattle.format.specs.Directory.{tileCount, entryPlace}
+use Rattle.format.specs.Attachments.{xmlSize, xmlAttachmentSize, attachmentCount, attachmentEntry, attachmentPosition, attachmentDataSize}
+use Rattle.format.specs.Rules.{checks, verdict, tileVerdict, attachmentVerdict}
+use Rattle.format.specs.declared.Verdict.{Verdict}
+use Rattle.format.specs.declared.Verdict.the-variants as Is
+use Rattle.format.specs.declared.Span.{Span}
+use Rattle.format.specs.declared.Extent.{Extent}
+use Rattle.format.specs.declared.Layer.{Layer}
+use Rattle.format.specs.declared.Layer.the-variants.{NoM, M}
+use Rattle.format.specs.declared.Tile.{Tile}
+use Rattle.format.specs.declared.TileMask.{TileMask}
+use Rattle.format.specs.declared.TileMask.the-variants.{Unmasked}
+use Rattle.format.specs.declared.Dimension.{Dimension}
+use Rattle.format.specs.declared.TileAnswer.{TileAnswer}
+use Rattle.format.specs.declared.TileAnswer.the-variants as TA
+use Rattle.format.specs.declared.DimensionAnswer.{DimensionAnswer}
+use Rattle.format.specs.declared.DimensionAnswer.the-variants as DA
+
+-- ---- stretches of the file
+
+abbrev pub span : ℕ → ℕ → Span
+span p n = record { start = p; length = n }
+
+-- a stretch where a verdict accepts, the empty one where it refuses
+abbrev pub spanIf : Verdict → Span → Span
+spanIf v s = ifAccepted v s (span 0 0)
+
+-- ---- the parts of the sub-block at q of the file bs, its entry at e of the file ds
+
+unfoldable pub metadataSpan : List ℕ → ℕ → List ℕ → ℕ → Span
+metadataSpan ds e bs q = span (metadataPlace ds e q) (metadataSize bs q)
+
+unfoldable pub pixelsSpan : List ℕ → ℕ → List ℕ → ℕ → Span
+pixelsSpan ds e bs q = span (pixelsPlace ds e bs q) (dataSize bs q)
+
+unfoldable pub attachmentSpan : List ℕ → ℕ → List ℕ → ℕ → Span
+attachmentSpan ds e bs q = span (attachmentPlace ds e bs q) (attachmentSize bs q)
+
+-- its mask: a tile with no mask is valid everywhere
+unfoldable pub maskOf : List ℕ → ℕ → List ℕ → ℕ → TileMask
+maskOf ds e bs q =
+    cond (isContainer bs (metadataPlace ds e q) (metadataSize bs q))
+    (maskFrom (attachmentSize bs q) bs (attachmentPlace ds e bs q + attachmentSize bs q) (attachmentPlace ds e bs q))
+    Unmasked
+
+-- ---- the tile record
+
+-- the dimension at d as X or Y
+unfoldable pub extentAt : List ℕ → ℕ → Extent
+extentAt bs d = record { start = signed32 (start bs d); size = size bs d; stored = stored bs d }
+
+-- M (77), if the entry has one
+unfoldable pub layerOf : List ℕ → ℕ → Layer
+layerOf bs e = cond (anyBelow (dimensionCount bs e) (hasLetter bs e 77)) (M (signed32 (start bs (letterPlace bs e 77)))) NoM
+
+-- of entry n, which stands at e of the file ds, and its sub-block at q of the file bs
+unfoldable pub tileAt : ℕ → List ℕ → ℕ → List ℕ → ℕ → Tile
+tileAt n ds e bs q =
+    record {
+      entry = n;
+      place = e;
+      «pixel_type» = pixelType ds e;
+      position = q;
+      pyramid = pyramidByte ds e;
+      dimensions = dimensionCount ds e;
+      x = extentAt ds (letterPlace ds e 88);
+      y = extentAt ds (letterPlace ds e 89);
+      m = layerOf ds e;
+      metadata = metadataSpan ds e bs q;
+      pixels = pixelsSpan ds e bs q;
+      attachment = attachmentSpan ds e bs q;
+      mask = maskOf ds e bs q;
+    }
+
+unfoldable pub tileOf : List ℕ → ℕ → Tile
+tileOf bs n = tileAt n bs (entryPlace bs n) bs (filePosition bs (entryPlace bs n))
+
+-- the answer of number n, by the verdict
+abbrev pub tileIf : Verdict → Tile → TileAnswer
+tileIf Is.Accepted t = TA.Found t
+tileIf (Is.Refused n p) t = TA.Refused n p
+
+unfoldable pub tileAnswer : List ℕ → ℕ → TileAnswer
+tileAnswer bs n = tileIf (tileVerdict bs n) (tileOf bs n)
+
+-- ---- the dimension record
+
+unfoldable pub dimensionAt : List ℕ → ℕ → Dimension
+dimensionAt bs d =
+    record {
+      letter = letter bs d;
+      start = signed32 (start bs d);
+      size = size bs d;
+      coordinate = ofBits binary32 (coordinateBits bs d);
+      «coordinate_bits» = coordinateBits bs d;
+      stored = stored bs d;
+    }
+
+-- 24 where there is no such entry, or no such dimension of it
+unfoldable pub dimensionVerdict : List ℕ → ℕ → ℕ → Verdict
+dimensionVerdict bs n k =
+    first
+    (checks bs ++
+    (row 24 0 (leb (tileCount bs) n) ∷
+    row 24 0 (leb (dimensionCount bs (entryPlace bs n)) k) ∷
+    []))
+
+abbrev pub dimensionIf : Verdict → Dimension → DimensionAnswer
+dimensionIf Is.Accepted d = DA.Found d
+dimensionIf (Is.Refused n p) d = DA.Refused n p
+
+unfoldable pub dimensionAnswer : List ℕ → ℕ → ℕ → DimensionAnswer
+dimensionAnswer bs n k = dimensionIf (dimensionVerdict bs n k) (dimensionAt bs (dimensionPlace (entryPlace bs n) k))
+
+-- ---- the stretches of the views: the empty one where refused
+
+unfoldable pub tilePixels : List ℕ → ℕ → Span
+tilePixels bs n = spanIf (tileVerdict bs n) (pixelsSpan bs (entryPlace bs n) bs (filePosition bs (entryPlace bs n)))
+
+unfoldable pub tileMetadata : List ℕ → ℕ → Span
+tileMetadata bs n = spanIf (tileVerdict bs n) (metadataSpan bs (entryPlace bs n) bs (filePosition bs (entryPlace bs n)))
+
+unfoldable pub tileAttachment : List ℕ → ℕ → Span
+tileAttachment bs n = spanIf (tileVerdict bs n) (attachmentSpan bs (entryPlace bs n) bs (filePosition bs (entryPlace bs n)))
+
+-- the data of the attachment at q, from 256
+unfoldable pub attachmentDataSpan : List ℕ → ℕ → Span
+attachmentDataSpan bs q = span (q + 288) (attachmentDataSize bs q)
+
+unfoldable pub attachmentData : List ℕ → ℕ → Span
+attachmentData bs n = spanIf (attachmentVerdict bs n) (attachmentDataSpan bs (attachmentPosition bs (attachmentEntry (attachmentDirectoryPosition bs) n)))
+
+-- the common XML and its attachment: empty, and not refused, without a metadata segment
+unfoldable pub xmlSpan : List ℕ → ℕ → Span
+xmlSpan bs m = cond (eqb m 0) (span 0 0) (span (m + 288) (xmlSize bs m))
+
+unfoldable pub xmlAttachmentSpan : List ℕ → ℕ → Span
+xmlAttachmentSpan bs m = cond (eqb m 0) (span 0 0) (span (m + 288 + xmlSize bs m) (xmlAttachmentSize bs m))
+
+unfoldable pub commonXml : List ℕ → Span
+commonXml bs = spanIf (verdict bs) (xmlSpan bs (metadataPosition bs))
+
+unfoldable pub commonAttachment : List ℕ → Span
+commonAttachment bs = spanIf (verdict bs) (xmlAttachmentSpan bs (metadataPosition bs))
