@@ -1,0 +1,35 @@
+use Prim.Native.Nat.{ℕ, _%_}
+use mathlib.Core.Path.{_≡_, refl, sym, _∙_, subst}
+use mathlib.Core.Bool.{Bool, true, false}
+use borrow.Author.Needs.{needs}
+use borrow.Author.Tests.{lt-ltb, le-ltb}
+use lib.Ieee.{Float, nan, inf, fin, binary32, isNan, ofBits, nanBits, div, ofFields, odd}
+use lib.Ieee.Bits.{nanBits-above, nanBits-is}
+use Rattle.fields.proofs.float_of.Statement.{statement}
+use Rattle.fields.proofs.float_of.Tie as tie
+
+abbrev tag : Bool → Type 0
+tag true = ⊥
+tag false = Unit {0}
+
+clash : _≡_ {A = Bool} false true → ⊥
+clash h = subst tag h tt
+
+only-nan : (v : Float) → isNan v ≡ true → nan ≡ v
+unfolding isNan
+only-nan nan h = refl
+only-nan (inf s) h = absurd (clash h)
+only-nan (fin s m e) h = absurd (clash h)
+
+returns : tie.Need-returns
+unfolding div ofBits ofFields odd
+returns c = only-nan (ofBits binary32 (c .before .args .bits)) (sym (nanBits-is binary32 (c .before .args .bits)) ∙ nanBits-above binary32 (c .before .args .bits) ∙ lt-ltb _ _ (c .if1 .taken))
+
+float-from-bits-result : tie.Need-float-from-bits-result
+float-from-bits-result c = rw (nanBits-above binary32 (c .before .args .bits), le-ltb 2139095040 (c .before .args .bits % 2147483648) (c .if1 .left)) tt
+
+returns-2 : tie.Need-returns-2
+returns-2 c = search needs
+
+pub float-of-spec : {M : Type 1} → statement M
+float-of-spec = tie.close (tie.spec returns float-from-bits-result returns-2)
