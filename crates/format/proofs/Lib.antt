@@ -4,3 +4,5 @@ pub mod Below
 pub mod Firsts
 pub mod Members
 pub mod SegmentLaws
+pub mod Walk
+pub mod ChunkWalk
