@@ -6,9 +6,9 @@ use mathlib.Core.Bool.{Bool, true, false, cond, _||_, or-true, true≢false}
 use native.Mathlib.Omega.{arith}
 use lib.ListN.{length, getD}
 use lib.Dec.{ltb}
-use borrow.Author.Tests.{lt-ltb, le-ltb, ltb-true, ltb-false, leb-false}
+use borrow.Author.Tests.{lt-ltb, le-ltb, ltb-false, leb-false}
 use Rattle.format.specs.Bytes.{anyOf}
-use Rattle.format.specs.Checks.{Check, row, first}
+use Rattle.format.specs.Checks.{first}
 use Rattle.format.specs.Masks.{chunkSize, nextChunk, chunkBad, isMask, maskBad, maskRefused, chunkRows, chunksRows}
 use Rattle.format.specs.WellFormed.{Chain, Each, Chunks}
 use Rattle.format.specs.declared.Verdict.the-variants.{Accepted}

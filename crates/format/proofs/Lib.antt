@@ -6,3 +6,6 @@ pub mod Members
 pub mod SegmentLaws
 pub mod Walk
 pub mod ChunkWalk
+pub mod EntryRows
+pub mod FileRows
+pub mod Acceptance

@@ -1,18 +1,18 @@
 -- The walk accepts exactly where the walked segments tile the file, and then they are the only ones that do. Assumes nothing.
-use Prim.Native.Nat.{ℕ, zero, suc, _+_, _≤_, _<_, suc-le-suc, zero-le}
-use mathlib.Core.Path.{_≡_, refl, sym, ap, _∙_}
+use Prim.Native.Nat.{ℕ, zero, suc, _≤_, _<_, suc-le-suc, zero-le}
+use mathlib.Core.Path.{_≡_, refl, ap, _∙_}
 use mathlib.Core.List.{List, [], _∷_, _++_}
 use mathlib.Core.Bool.{Bool, true, false, cond}
 use native.Mathlib.Omega.{arith}
-use lib.ListN.{length, getD}
+use lib.ListN.{length}
 use lib.Dec.{ltb}
 use borrow.Author.Tests.{ltb-true, ltb-false}
-use Rattle.format.specs.Checks.{Check, row, first}
+use Rattle.format.specs.Checks.{first}
 use Rattle.format.specs.Segments.{nextSegment, lengthBad, segmentRows, walkRows, walkedFrom, walked, segmentsRows}
 use Rattle.format.specs.WellFormed.{Chain, Each, Segment}
 use Rattle.format.specs.declared.Verdict.the-variants.{Accepted}
 use Rattle.format.proofs.Firsts.{first-both, first-passed}
-use Rattle.format.proofs.SegmentLaws.{Sized, sizes-ok, next-is, segment-ok, segment-accepted, walk-end, walk-next, walked-end, walked-next}
+use Rattle.format.proofs.SegmentLaws.{length-ok, sizes-ok, room-within, role-room, walked-places, next-is, segment-ok, segment-accepted, walk-end, walk-next, walked-end, walked-next}
 
 module _ (bs : List ℕ) where
   -- the walk ends where the file ends: a segment that is not refused lies in it
@@ -55,3 +55,16 @@ module _ (bs : List ℕ) where
       → (first (segmentsRows bs) ≡ Accepted) × (walked bs ≡ l)
   unfolding segmentsRows walked
   chain-segments l e c s h = rw e (chain-walk l 8192 0 c s h)
+
+  -- such a file has the file segment with its fixed part
+  pub file-long : first (segmentsRows bs) ≡ Accepted → 112 ≤ length bs
+  file-long e = go (walked bs) (c .1) (walked-places bs .segment)
+    where
+      c : (lengthBad bs ≡ false) × Chain (nextSegment bs) 0 (length bs) (walked bs)
+      c = segments-chain e
+
+      go : (l : List ℕ) → Chain (nextSegment bs) 0 (length bs) l → Each (Segment bs) l → 112 ≤ length bs
+      go [] f s = absurd (omega (arith, f, length-ok bs (c .0) .some))
+      go (q ∷ l) f s =
+          let t : Segment bs 0 = rw (f .0) at (s 0 (suc-le-suc zero-le)) in
+          omega (arith, room-within bs 0 (sizes-ok bs 0 (t .sizes)), role-room bs (t .role))
