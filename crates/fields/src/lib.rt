@@ -5,7 +5,7 @@ ghost use mathlib.Core.Bool.{not};
 ghost use lib.ListN.{getD, length};
 ghost use lib.Dec.{eqb};
 ghost use lib.Ieee.{ofBits, binary32};
-ghost use Rattle.format.specs.Bytes.{u32At, u64At, sameAt, sameRange, partOf, signed32, biased};
+ghost use Rattle.format.specs.Bytes.{u32At, u64At, sameAt, sameRange, partOf, signed32, biased, shifted};
 
 fn wide(x: u8) -> u64
     ensures { λ r. ⌜ (r ≡ x) × (r < 256) ⌝ }
@@ -101,6 +101,13 @@ pub fn biased_of(x: u64) -> u64
     ensures { λ r. ⌜ r ≡ biased x ⌝ }
 {
     (x + 2147483648) % 4294967296
+}
+
+// The number x plus 2^31.
+pub fn shifted_of(x: i32) -> u64
+    ensures { λ r. ⌜ (r ≡ shifted x) × (r < 2 ^ 32) ⌝ }
+{
+    ((x as i64) + 2147483648) as u64
 }
 
 // The float of a bit pattern. In the logic all not-a-numbers are one value, and that one is made by a division.

@@ -1,11 +1,11 @@
 -- Numbers and byte strings in a list of bytes. Every read is total: a byte past the end counts as 0.
 -- All numbers are little-endian. A signed field (Int, Long) is kept as the unsigned number of its bits.
-use Prim.Native.Nat.{ℕ, zero, suc, _+_, _*_, _%_, _^_}
+use Prim.Native.Nat.{ℕ, zero, suc, _+_, _-_, _*_, _%_, _^_}
 use mathlib.Core.List.{List, [], _∷_}
 use mathlib.Core.Bool.{Bool, true, false, cond, _&&_, _||_}
 use lib.ListN.{length, getD, take, drop}
 use lib.Dec.{eqb, leb, ltb}
-use lib.IntN.{ℤ, pos, _-ℤ_}
+use lib.IntN.{ℤ, pos, negsuc, _-ℤ_}
 
 -- ---- tests over a range of numbers
 
@@ -53,6 +53,11 @@ signed32 x = cond (ltb x (2 ^ 31)) (pos x) (pos x -ℤ pos (2 ^ 32))
 -- an Int's value plus 2 ^ 31, so that plane coordinates are compared and subtracted as numbers that are not negative
 unfoldable pub biased : ℕ → ℕ
 biased x = (x + 2 ^ 31) % 2 ^ 32
+
+-- the same of a signed number that is given as one
+abbrev pub shifted : ℤ → ℕ
+shifted (pos n) = n + 2 ^ 31
+shifted (negsuc n) = 2 ^ 31 - suc n
 
 -- ---- byte strings
 
