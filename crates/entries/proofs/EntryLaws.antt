@@ -1,0 +1,178 @@
+-- What follows for an entry that is not refused: its mark and number of dimensions, its X and Y, and the bounds of a dimension. Assumes nothing.
+use Prim.Native.Nat.{ℕ, _+_, _^_, _≤_, _<_}
+use mathlib.Core.Path.{_≡_, refl, sym}
+use mathlib.Core.List.{List, [], _∷_}
+use mathlib.Core.Bool.{Bool, true, false, cond, not, true≢false}
+use native.Mathlib.Omega.{arith}
+use lib.Dec.{eqb, leb}
+use borrow.Author.Tests.{ltb-false, leb-false, eqb-true, eqb-false, not-false}
+use Rattle.format.specs.Bytes.{sameAt, anyOf, anyBelow, leastBelow, biased}
+use Rattle.format.specs.Names.{markTile}
+use Rattle.format.specs.Entry.{dimensionCount, letter, start, size, stored, storedField, dimensionPlace, nextEntry, headBad, letterBad, tooFar, isPlane, sizeBad, dimensionBad, hasLetter, repeats, closesPlane, dimensionsBad, letterIndex, letterPlace, pixelBytes}
+use Rattle.format.proofs.Below.{none, any-found, any-none, least-is, least-none}
+
+-- ---- the fixed part
+
+pub record Headed (bs : List ℕ) (e : ℕ) : Type 0 where
+  pub mark : sameAt bs e markTile ≡ true
+  pub some : 1 ≤ dimensionCount bs e
+  pub few : dimensionCount bs e ≤ 16
+
+pub head-ok : (bs : List ℕ) (e : ℕ) → headBad bs e ≡ false → Headed bs e
+unfolding headBad
+head-ok bs e h =
+    let zero = eqb-false (dimensionCount bs e) 0 (none _ h 1) in
+    record { mark = not-false _ (none _ h 0); some = omega (arith, zero); few = ltb-false 16 (dimensionCount bs e) (none _ h 2) }
+
+-- ---- a dimension by itself
+
+pub record Sized (bs : List ℕ) (d : ℕ) : Type 0 where
+  pub from-A : 65 ≤ letter bs d
+  pub to-Z : letter bs d ≤ 90
+  pub size-some : 1 ≤ size bs d
+  pub size-fits : size bs d < 2 ^ 31
+  pub stored-some : 1 ≤ stored bs d
+  pub stored-fits : stored bs d < 2 ^ 31
+  -- Start + Size is at most 2 ^ 31 - 1
+  pub end : biased (start bs d) + size bs d < 2 ^ 32
+
+-- a Size that is not refused is at least 1 and not negative
+size-ok : (bs : List ℕ) (d : ℕ) → sizeBad bs d ≡ false → (1 ≤ size bs d) × (size bs d < 2 ^ 31)
+unfolding sizeBad
+size-ok bs d h = go (isPlane (letter bs d)) h
+  where
+    go : (t : Bool) → cond t (anyOf (eqb (size bs d) 0 ∷ leb (2 ^ 31) (size bs d) ∷ [])) (anyOf (not (eqb (size bs d) 1) ∷ not (eqb (stored bs d) 1) ∷ [])) ≡ false → (1 ≤ size bs d) × (size bs d < 2 ^ 31)
+    go true h =
+        let zero = eqb-false (size bs d) 0 (none _ h 0) in
+        let high = leb-false (2 ^ 31) (size bs d) (none _ h 1) in
+        (omega (arith, zero), omega (arith, high))
+    go false h =
+        let one = eqb-true (size bs d) 1 (not-false _ (none _ h 0)) in
+        (omega (arith, one), omega (arith, one))
+
+-- a stored size is Size or a StoredSize that is not 0
+stored-ok : (bs : List ℕ) (d : ℕ) → 1 ≤ size bs d → size bs d < 2 ^ 31 → storedField bs d < 2 ^ 31 → (1 ≤ stored bs d) × (stored bs d < 2 ^ 31)
+unfolding stored
+stored-ok bs d some fits field = go (eqb (storedField bs d) 0) refl
+  where
+    go : (t : Bool) → eqb (storedField bs d) 0 ≡ t → (1 ≤ cond t (size bs d) (storedField bs d)) × (cond t (size bs d) (storedField bs d) < 2 ^ 31)
+    go true e = (some, fits)
+    go false e = let zero = eqb-false (storedField bs d) 0 e in (omega (arith, zero), field)
+
+-- 2 ^ 31 is added to a number that is not negative
+biased-plus : (z : ℕ) → z < 2 ^ 31 → biased z ≡ z + 2 ^ 31
+unfolding biased
+biased-plus z h = omega arith
+
+end-ok : (bs : List ℕ) (d : ℕ) → size bs d < 2 ^ 31 → tooFar bs d ≡ false → biased (start bs d) + size bs d < 2 ^ 32
+unfolding tooFar
+end-ok bs d fits h = sum (biased (start bs d)) (size bs d) fits (ltb-false 6442450943 (biased (start bs d) + biased (size bs d)) h)
+  where
+    sum : (a z : ℕ) → z < 2 ^ 31 → a + biased z ≤ 6442450943 → a + z < 2 ^ 32
+    sum a z fits h = omega (arith, biased-plus z fits)
+
+pub dimension-ok : (bs : List ℕ) (d : ℕ) → dimensionBad bs d ≡ false → Sized bs d
+unfolding dimensionBad letterBad
+dimension-ok bs d h =
+    let letters = none _ h 0 in
+    let sizes = size-ok bs d (none _ h 3) in
+    let field = leb-false (2 ^ 31) (storedField bs d) (none _ h 2) in
+    let storeds = stored-ok bs d (sizes .0) (sizes .1) field in
+    record {
+      from-A = ltb-false (letter bs d) 65 (none _ letters 0);
+      to-Z = ltb-false 90 (letter bs d) (none _ letters 1);
+      size-some = sizes .0;
+      size-fits = sizes .1;
+      stored-some = storeds .0;
+      stored-fits = storeds .1;
+      end = end-ok bs d (sizes .1) (none _ h 1);
+    }
+
+-- ---- the dimension of a letter
+
+-- it lies in the entry, or behind it where the entry lacks the letter
+pub index-within : (bs : List ℕ) (e x : ℕ) → letterIndex bs e x ≤ dimensionCount bs e
+unfolding letterIndex
+index-within bs e x = go (anyBelow (dimensionCount bs e) (hasLetter bs e x)) refl
+  where
+    go : (b : Bool) → anyBelow (dimensionCount bs e) (hasLetter bs e x) ≡ b → leastBelow (dimensionCount bs e) (hasLetter bs e x) ≤ dimensionCount bs e
+    go true h = let l = least-is _ _ h in omega (arith, l .below)
+    go false h = omega (arith, least-none _ _ h)
+
+-- of a letter that the entry has
+pub record Placed (bs : List ℕ) (e x : ℕ) : Type 0 where
+  pub index : letterIndex bs e x < dimensionCount bs e
+  pub within : letterPlace bs e x + 20 ≤ nextEntry bs e
+  pub letter-is : letter bs (letterPlace bs e x) ≡ x
+
+pub letter-placed : (bs : List ℕ) (e x : ℕ) → anyBelow (dimensionCount bs e) (hasLetter bs e x) ≡ true → Placed bs e x
+unfolding letterIndex letterPlace nextEntry hasLetter
+letter-placed bs e x h =
+    let l = least-is (dimensionCount bs e) (hasLetter bs e x) h in
+    record { index = l .below; within = omega (arith, l .below); letter-is = eqb-true _ x (l .holds) }
+
+-- ---- the dimensions of an entry
+
+pub record Planed (bs : List ℕ) (e : ℕ) : Type 0 where
+  pub each : (k : ℕ) → k < dimensionCount bs e → Sized bs (dimensionPlace e k)
+  pub once : (j k : ℕ) → j < dimensionCount bs e → k < j → letter bs (dimensionPlace e k) ≡ letter bs (dimensionPlace e j) → ⊥
+  pub x : Placed bs e 88
+  pub y : Placed bs e 89
+  pub x-sized : Sized bs (letterPlace bs e 88)
+  pub y-sized : Sized bs (letterPlace bs e 89)
+
+-- Y stands, and X before it
+both : (bs : List ℕ) (e : ℕ) → anyBelow (dimensionCount bs e) (closesPlane bs e) ≡ true → (anyBelow (dimensionCount bs e) (hasLetter bs e 88) ≡ true) × (anyBelow (dimensionCount bs e) (hasLetter bs e 89) ≡ true)
+unfolding closesPlane
+both bs e h = let l = least-is (dimensionCount bs e) (closesPlane bs e) h in go (leastBelow (dimensionCount bs e) (closesPlane bs e)) (l .below) (hasLetter bs e 89 (leastBelow (dimensionCount bs e) (closesPlane bs e))) refl (l .holds)
+  where
+    go : (j : ℕ) → j < dimensionCount bs e → (t : Bool) → hasLetter bs e 89 j ≡ t → cond t (anyBelow j (hasLetter bs e 88)) false ≡ true → (anyBelow (dimensionCount bs e) (hasLetter bs e 88) ≡ true) × (anyBelow (dimensionCount bs e) (hasLetter bs e 89) ≡ true)
+    go j b true y h =
+        let m = least-is j (hasLetter bs e 88) h in
+        (any-found (dimensionCount bs e) (leastBelow j (hasLetter bs e 88)) (hasLetter bs e 88) (omega (arith, m .below)) (m .holds), any-found (dimensionCount bs e) j (hasLetter bs e 89) b y)
+    go j b false y h = absurd (true≢false (sym h))
+
+-- no letter stands before dimension j that it has itself
+apart : (bs : List ℕ) (e j k : ℕ) → repeats bs e j ≡ false → k < j → letter bs (dimensionPlace e k) ≡ letter bs (dimensionPlace e j) → ⊥
+unfolding repeats hasLetter
+apart bs e j k h b = eqb-false _ _ (any-none j k (hasLetter bs e (letter bs (dimensionPlace e j))) h b)
+
+pub dimensions-ok : (bs : List ℕ) (e : ℕ) → dimensionsBad bs e ≡ false → Planed bs e
+unfolding dimensionsBad letterPlace
+dimensions-ok bs e h =
+    let plane = both bs e (not-false _ (none _ h 2)) in
+    let px = letter-placed bs e 88 (plane .0) in
+    let py = letter-placed bs e 89 (plane .1) in
+    record {
+      each = λ k l. sized k l;
+      once = λ j k l b f. differ j k l b f;
+      x = px;
+      y = py;
+      x-sized = sized (letterIndex bs e 88) (px .index);
+      y-sized = sized (letterIndex bs e 89) (py .index);
+    }
+  where
+    sized : (k : ℕ) → k < dimensionCount bs e → Sized bs (dimensionPlace e k)
+    sized k l = dimension-ok bs (dimensionPlace e k) (any-none (dimensionCount bs e) k (λ j. dimensionBad bs (dimensionPlace e j)) (none _ h 0) l)
+
+    differ : (j k : ℕ) → j < dimensionCount bs e → k < j → letter bs (dimensionPlace e k) ≡ letter bs (dimensionPlace e j) → ⊥
+    differ j k l b f = apart bs e j k (any-none (dimensionCount bs e) j (repeats bs e) (none _ h 1) l) b f
+
+-- ---- pixel types
+
+pub pixel-bytes-few : (t : ℕ) → pixelBytes t ≤ 24
+unfolding pixelBytes
+pixel-bytes-few t =
+    up (eqb t 0) 1 _ (omega arith)
+    (up (eqb t 1) 2 _ (omega arith)
+    (up (eqb t 2) 4 _ (omega arith)
+    (up (eqb t 3) 3 _ (omega arith)
+    (up (eqb t 4) 6 _ (omega arith)
+    (up (eqb t 8) 12 _ (omega arith)
+    (up (eqb t 9) 4 _ (omega arith)
+    (up (eqb t 10) 8 _ (omega arith)
+    (up (eqb t 11) 24 0 (omega arith) (omega arith)))))))))
+  where
+    up : (b : Bool) (m r : ℕ) → m ≤ 24 → r ≤ 24 → cond b m r ≤ 24
+    up true m r h k = h
+    up false m r h k = k

@@ -1,0 +1,362 @@
+// Judges and reads an entry of the sub-block directory and its dimensions. The callers have shown that what is read lies in the slice.
+use format::Dimension;
+use format::Extent;
+use format::Layer;
+ghost use mathlib.Core.Path.{_≡_};
+ghost use Prim.Native.Nat.{_+_, _*_, _<_, _≤_, _^_};
+ghost use mathlib.Core.Bool.{false};
+ghost use lib.ListN.{length};
+ghost use Rattle.format.specs.Bytes.{anyBelow};
+ghost use Rattle.format.specs.Entry.{dimensionCount, headBad, letterBad, tooFar, isPlane, stored, sizeBad, dimensionBad, dimensionPlace, nextEntry, hasLetter, repeats, closesPlane, dimensionsBad, letterIndex, letterPlace, isPyramid, pixelBytes};
+ghost use Rattle.format.specs.Records.{extentAt, layerOf, dimensionAt};
+
+// How many dimensions the entry at e has.
+pub fn dimension_count(s: &[u8], e: u64) -> u64
+    requires { ⌜ e + 32 ≤ length (now s) ⌝ }
+    ensures { λ r. ⌜ (r ≡ dimensionCount (now (s .entry)) e) × (r < 2 ^ 32) ⌝ }
+{
+    fields::u32_at(s, e + 28)
+}
+
+// Refusal 11 for the mark and the number of dimensions.
+pub fn head_bad(s: &[u8], e: u64) -> bool
+    requires { ⌜ e + 32 ≤ length (now s) ⌝ }
+    ensures { λ r. ⌜ r ≡ headBad (now (s .entry)) e ⌝ }
+{
+    if !fields::same_at(s, e, b"DV") {
+        return true;
+    }
+    let n = dimension_count(s, e);
+    if n == 0 {
+        return true;
+    }
+    if 16 < n {
+        return true;
+    }
+    false
+}
+
+// The letter is not one of A to Z and three zero bytes.
+fn letter_bad(s: &[u8], d: u64) -> bool
+    requires { ⌜ d + 20 ≤ length (now s) ⌝ }
+    ensures { λ r. ⌜ r ≡ letterBad (now (s .entry)) d ⌝ }
+{
+    let letter = fields::u32_at(s, d);
+    if letter < 65 {
+        return true;
+    }
+    if 90 < letter {
+        return true;
+    }
+    false
+}
+
+// Start + Size is over 2^31 - 1: with 2^31 added to each.
+fn too_far(s: &[u8], d: u64) -> bool
+    requires { ⌜ d + 20 ≤ length (now s) ⌝ }
+    ensures { λ r. ⌜ r ≡ tooFar (now (s .entry)) d ⌝ }
+{
+    let start = fields::u32_at(s, d + 4);
+    let size = fields::u32_at(s, d + 8);
+    let end = fields::biased_of(start) + fields::biased_of(size);
+    if 6442450943 < end {
+        return true;
+    }
+    false
+}
+
+// X or Y.
+fn is_plane(letter: u64) -> bool
+    ensures { λ r. ⌜ r ≡ isPlane letter ⌝ }
+{
+    if letter == 88 {
+        return true;
+    }
+    if letter == 89 {
+        return true;
+    }
+    false
+}
+
+// The stored size of the dimension at d.
+pub fn stored_at(s: &[u8], d: u64) -> u64
+    requires { ⌜ d + 20 ≤ length (now s) ⌝ }
+    ensures { λ r. ⌜ r ≡ stored (now (s .entry)) d ⌝ }
+{
+    let field = fields::u32_at(s, d + 16);
+    if field == 0 {
+        return fields::u32_at(s, d + 8);
+    }
+    field
+}
+
+// X and Y have a Size of at least 1; any other dimension has Size 1 and stored size 1.
+fn size_bad(s: &[u8], d: u64) -> bool
+    requires { ⌜ d + 20 ≤ length (now s) ⌝ }
+    ensures { λ r. ⌜ r ≡ sizeBad (now (s .entry)) d ⌝ }
+{
+    let letter = fields::u32_at(s, d);
+    let size = fields::u32_at(s, d + 8);
+    if is_plane(letter) {
+        if size == 0 {
+            return true;
+        }
+        if 2147483648 <= size {
+            return true;
+        }
+        return false;
+    }
+    if size != 1 {
+        return true;
+    }
+    if stored_at(s, d) != 1 {
+        return true;
+    }
+    false
+}
+
+// The dimension at d is not well formed by itself.
+fn dimension_bad(s: &[u8], d: u64) -> bool
+    requires { ⌜ d + 20 ≤ length (now s) ⌝ }
+    ensures { λ r. ⌜ r ≡ dimensionBad (now (s .entry)) d ⌝ }
+{
+    if letter_bad(s, d) {
+        return true;
+    }
+    if too_far(s, d) {
+        return true;
+    }
+    if 2147483648 <= fields::u32_at(s, d + 16) {
+        return true;
+    }
+    if size_bad(s, d) {
+        return true;
+    }
+    false
+}
+
+// Some dimension of the entry is not well formed by itself.
+fn some_bad(s: &[u8], e: u64) -> bool
+    requires { ⌜ nextEntry (now s) e ≤ length (now s) ⌝ }
+    ensures { λ r. ⌜ r ≡ anyBelow (dimensionCount (now (s .entry)) e) (λ k. dimensionBad (now (s .entry)) (dimensionPlace e k)) ⌝ }
+{
+    let n = dimension_count(s, e);
+    let mut k: u64 = 0;
+    while k < n {
+        if dimension_bad(s, e + 32 + 20 * k) {
+            return true;
+        }
+        k += 1;
+    }
+    false
+}
+
+// Dimension k of the entry has the letter x.
+fn has_letter(s: &[u8], e: u64, x: u64, k: u64) -> bool
+    requires { ⌜ dimensionPlace e k + 20 ≤ length (now s) ⌝ }
+    ensures { λ r. ⌜ r ≡ hasLetter (now (s .entry)) e x k ⌝ }
+{
+    if fields::u32_at(s, e + 32 + 20 * k) == x {
+        return true;
+    }
+    false
+}
+
+// One of the entry's first j dimensions has the letter x.
+fn holds_below(s: &[u8], e: u64, x: u64, j: u64) -> bool
+    requires { ⌜ dimensionPlace e j ≤ length (now s) ⌝ }
+    ensures { λ r. ⌜ r ≡ anyBelow j (hasLetter (now (s .entry)) e x) ⌝ }
+{
+    let mut k: u64 = 0;
+    while k < j {
+        if has_letter(s, e, x, k) {
+            return true;
+        }
+        k += 1;
+    }
+    false
+}
+
+// The letter of dimension j stands before it too.
+fn repeats_at(s: &[u8], e: u64, j: u64) -> bool
+    requires { ⌜ dimensionPlace e j + 20 ≤ length (now s) ⌝ }
+    ensures { λ r. ⌜ r ≡ repeats (now (s .entry)) e j ⌝ }
+{
+    let x = fields::u32_at(s, e + 32 + 20 * j);
+    holds_below(s, e, x, j)
+}
+
+// A letter stands twice.
+fn some_repeats(s: &[u8], e: u64) -> bool
+    requires { ⌜ nextEntry (now s) e ≤ length (now s) ⌝ }
+    ensures { λ r. ⌜ r ≡ anyBelow (dimensionCount (now (s .entry)) e) (repeats (now (s .entry)) e) ⌝ }
+{
+    let n = dimension_count(s, e);
+    let mut k: u64 = 0;
+    while k < n {
+        if repeats_at(s, e, k) {
+            return true;
+        }
+        k += 1;
+    }
+    false
+}
+
+// Dimension j is Y, and X stands before it.
+fn closes_plane(s: &[u8], e: u64, j: u64) -> bool
+    requires { ⌜ dimensionPlace e j + 20 ≤ length (now s) ⌝ }
+    ensures { λ r. ⌜ r ≡ closesPlane (now (s .entry)) e j ⌝ }
+{
+    if has_letter(s, e, 89, j) {
+        return holds_below(s, e, 88, j);
+    }
+    false
+}
+
+// X stands, and Y after it.
+fn some_closes(s: &[u8], e: u64) -> bool
+    requires { ⌜ nextEntry (now s) e ≤ length (now s) ⌝ }
+    ensures { λ r. ⌜ r ≡ anyBelow (dimensionCount (now (s .entry)) e) (closesPlane (now (s .entry)) e) ⌝ }
+{
+    let n = dimension_count(s, e);
+    let mut k: u64 = 0;
+    while k < n {
+        if closes_plane(s, e, k) {
+            return true;
+        }
+        k += 1;
+    }
+    false
+}
+
+// Refusal 11 for the dimensions.
+pub fn dimensions_bad(s: &[u8], e: u64) -> bool
+    requires { ⌜ nextEntry (now s) e ≤ length (now s) ⌝ }
+    ensures { λ r. ⌜ r ≡ dimensionsBad (now (s .entry)) e ⌝ }
+{
+    if some_bad(s, e) {
+        return true;
+    }
+    if some_repeats(s, e) {
+        return true;
+    }
+    if !some_closes(s, e) {
+        return true;
+    }
+    false
+}
+
+// The entry has a dimension of the letter x.
+pub fn holds_letter(s: &[u8], e: u64, x: u64) -> bool
+    requires { ⌜ nextEntry (now s) e ≤ length (now s) ⌝ }
+    ensures { λ r. ⌜ r ≡ anyBelow (dimensionCount (now (s .entry)) e) (hasLetter (now (s .entry)) e x) ⌝ }
+{
+    let n = dimension_count(s, e);
+    holds_below(s, e, x, n)
+}
+
+// The number of the dimension of the letter x; the number of dimensions where there is none.
+pub fn letter_index(s: &[u8], e: u64, x: u64) -> u64
+    requires { ⌜ nextEntry (now s) e ≤ length (now s) ⌝ }
+    ensures { λ r. ⌜ r ≡ letterIndex (now (s .entry)) e x ⌝ }
+{
+    let n = dimension_count(s, e);
+    let mut k: u64 = 0;
+    while k < n {
+        if has_letter(s, e, x, k) {
+            return k;
+        }
+        k += 1;
+    }
+    n
+}
+
+// The place of the dimension of the letter x; the place behind the entry where there is none.
+pub fn letter_place(s: &[u8], e: u64, x: u64) -> u64
+    requires { ⌜ nextEntry (now s) e ≤ length (now s) ⌝ }
+    ensures { λ r. ⌜ r ≡ letterPlace (now (s .entry)) e x ⌝ }
+{
+    e + 32 + 20 * letter_index(s, e, x)
+}
+
+// A pyramid tile: stored X or stored Y is not Size.
+pub fn is_pyramid(s: &[u8], e: u64) -> bool
+    requires { ⌜ (nextEntry (now s) e ≤ length (now s)) × (dimensionsBad (now s) e ≡ false) ⌝ }
+    ensures { λ r. ⌜ r ≡ isPyramid (now (s .entry)) e ⌝ }
+{
+    let x = letter_place(s, e, 88);
+    if stored_at(s, x) != fields::u32_at(s, x + 8) {
+        return true;
+    }
+    let y = letter_place(s, e, 89);
+    if stored_at(s, y) != fields::u32_at(s, y + 8) {
+        return true;
+    }
+    false
+}
+
+// Bytes a pixel; 0 where the type is not listed.
+pub fn pixel_bytes(t: u64) -> u64
+    ensures { λ r. ⌜ r ≡ pixelBytes t ⌝ }
+{
+    match t {
+        0 => 1,
+        1 => 2,
+        2 => 4,
+        3 => 3,
+        4 => 6,
+        8 => 12,
+        9 => 4,
+        10 => 8,
+        11 => 24,
+        _ => 0,
+    }
+}
+
+// The dimension at d as X or Y.
+pub fn extent_at(s: &[u8], d: u64) -> Extent
+    requires { ⌜ d + 20 ≤ length (now s) ⌝ }
+    ensures { λ r. ⌜ r ≡ extentAt (now (s .entry)) d ⌝ }
+{
+    let start = fields::signed_of(fields::u32_at(s, d + 4));
+    let size = fields::u32_at(s, d + 8);
+    let stored = stored_at(s, d);
+    Extent {
+        start,
+        size,
+        stored,
+    }
+}
+
+// The Start of M (77), if the entry has one.
+pub fn layer_of(s: &[u8], e: u64) -> Layer
+    requires { ⌜ nextEntry (now s) e ≤ length (now s) ⌝ }
+    ensures { λ r. ⌜ r ≡ layerOf (now (s .entry)) e ⌝ }
+{
+    if holds_letter(s, e, 77) {
+        let d = letter_place(s, e, 77);
+        return Layer::M(fields::signed_of(fields::u32_at(s, d + 4)));
+    }
+    Layer::NoM
+}
+
+// The dimension record of the dimension at d. The bits of StartCoordinate stand beside it.
+pub fn dimension_at(s: &[u8], d: u64) -> Dimension
+    requires { ⌜ d + 20 ≤ length (now s) ⌝ }
+    ensures { λ r. ⌜ r ≡ dimensionAt (now (s .entry)) d ⌝ }
+{
+    let letter = fields::u32_at(s, d);
+    let start = fields::signed_of(fields::u32_at(s, d + 4));
+    let size = fields::u32_at(s, d + 8);
+    let coordinate_bits = fields::u32_at(s, d + 12) as u32;
+    let coordinate = fields::float_of(coordinate_bits);
+    let stored = stored_at(s, d);
+    Dimension {
+        letter,
+        start,
+        size,
+        coordinate,
+        coordinate_bits,
+        stored,
+    }
+}
