@@ -2,3 +2,5 @@
 pub mod Flags
 pub mod Below
 pub mod Firsts
+pub mod Members
+pub mod SegmentLaws

@@ -1,0 +1,177 @@
+-- What the tests of segments tell where they do not refuse, and what holds of every walked segment. Assumes nothing.
+use Prim.Native.Nat.{ℕ, zero, suc, _+_, _%_, _^_, _≤_, _<_}
+use mathlib.Core.Path.{_≡_, refl, sym, _∙_}
+use mathlib.Core.List.{List, [], _∷_, _++_}
+use mathlib.Core.Bool.{Bool, true, false, cond, not, _&&_}
+use native.Mathlib.Omega.{arith}
+use lib.ListN.{length, getD}
+use lib.Dec.{eqb, ltb}
+use borrow.Author.Tests.{lt-ltb, le-ltb, ltb-true, ltb-false, eqb-true, eqb-false, not-false}
+use Rattle.format.specs.Bytes.{sameAt, anyOf}
+use Rattle.format.specs.Names.{nameFile}
+use Rattle.format.specs.Checks.{Check, row, first, ifAccepted}
+use Rattle.format.specs.Segments.{allocatedSize, usedSize, room, nextSegment, lengthBad, nameBad, allocatedBad, usedBad, endBad, sizesBad, roleBad, segmentRows, walkRows, walkedFrom, walked, member, walkedAs}
+use Rattle.format.specs.WellFormed.{Each, Segment}
+use Rattle.format.specs.declared.Verdict.{Verdict}
+use Rattle.format.specs.declared.Verdict.the-variants.{Accepted, Refused}
+use Rattle.format.proofs.Below.{none, and-both}
+use Rattle.format.proofs.Firsts.{passed, first-pass}
+use Rattle.format.proofs.Members.{member-all}
+
+-- ---- refusal 1 is not given
+
+pub record Whole (bs : List ℕ) : Type 0 where
+  pub whole : length bs % 32 ≡ 0
+  pub some : 0 < length bs
+  pub small : length bs ≤ 2 ^ 40
+
+pub length-ok : (bs : List ℕ) → lengthBad bs ≡ false → Whole bs
+unfolding lengthBad
+length-ok bs e =
+    let n : length bs ≡ 0 → ⊥ = eqb-false _ _ (none _ e 0) in
+    record { whole = eqb-true _ _ (not-false _ (none _ e 1)); some = omega arith; small = ltb-false _ _ (none _ e 2) }
+
+-- ---- refusal 3 is not given
+
+pub record Sized (bs : List ℕ) (p : ℕ) : Type 0 where
+  pub whole : allocatedSize bs p % 32 ≡ 0
+  pub used : usedSize bs p ≤ allocatedSize bs p
+  pub within : nextSegment bs p ≤ length bs
+
+pub sizes-ok : (bs : List ℕ) (p : ℕ) → sizesBad bs p ≡ false → Sized bs p
+unfolding sizesBad allocatedBad usedBad endBad
+sizes-ok bs p e =
+    record {
+      whole = eqb-true _ _ (not-false _ (none _ (none _ e 0) 1));
+      used = ltb-false _ _ (none _ (none _ e 1) 1);
+      within = ltb-false _ _ (none _ e 2);
+    }
+
+pub next-is : (bs : List ℕ) (p : ℕ) → nextSegment bs p ≡ p + 32 + allocatedSize bs p
+unfolding nextSegment
+next-is bs p = refl
+
+pub room-allocated : (bs : List ℕ) (p : ℕ) → Sized bs p → room bs p ≤ allocatedSize bs p
+unfolding room
+room-allocated bs p s = go (eqb (usedSize bs p) 0)
+  where
+    go : (b : Bool) → cond b (allocatedSize bs p) (usedSize bs p) ≤ allocatedSize bs p
+    go true = omega arith
+    go false = s .used
+
+-- a segment lies in the file, with its room
+pub room-within : (bs : List ℕ) (p : ℕ) → Sized bs p → p + 32 + room bs p ≤ length bs
+room-within bs p s = omega (arith, next-is bs p, s .within, room-allocated bs p s)
+
+-- ---- refusal 5 is not given to the first segment
+
+pub role-room : (bs : List ℕ) → roleBad bs 0 ≡ false → 80 ≤ room bs 0
+unfolding roleBad
+role-room bs e = ltb-false _ _ (none _ e 1)
+
+-- ---- a segment's rows
+
+pub segment-ok : (bs : List ℕ) (p : ℕ) → first (segmentRows bs p) ≡ Accepted → Segment bs p
+unfolding segmentRows
+segment-ok bs p e = let g = passed (segmentRows bs p) e in record { name = g 0; sizes = g 1; role = g 2 }
+
+pub segment-accepted : (bs : List ℕ) (p : ℕ) → Segment bs p → first (segmentRows bs p) ≡ Accepted
+unfolding segmentRows
+segment-accepted bs p s = rw (s .name, s .sizes, s .role)
+
+-- ---- one turn of the walk
+
+module _ (bs : List ℕ) (p : ℕ) where
+  pub walk-end : (n : ℕ) → length bs ≤ p → first (walkRows n bs p) ≡ Accepted
+  unfolding walkRows
+  walk-end zero h = rw (le-ltb p (length bs) h)
+  walk-end (suc n) h = rw (le-ltb p (length bs) h)
+
+  pub walk-next : (n : ℕ) → p < length bs → first (segmentRows bs p) ≡ Accepted → first (walkRows (suc n) bs p) ≡ first (walkRows n bs (nextSegment bs p))
+  unfolding walkRows
+  walk-next n h e = rw (lt-ltb p (length bs) h) (first-pass (segmentRows bs p) _ e)
+
+  pub walked-end : (n : ℕ) → length bs ≤ p → walkedFrom n bs p ≡ []
+  unfolding walkedFrom
+  walked-end zero h = refl
+  walked-end (suc n) h = rw (le-ltb p (length bs) h)
+
+  pub walked-next : (n : ℕ) → p < length bs → first (segmentRows bs p) ≡ Accepted → walkedFrom (suc n) bs p ≡ p ∷ walkedFrom n bs (nextSegment bs p)
+  unfolding walkedFrom
+  walked-next n h e = rw (lt-ltb p (length bs) h, e)
+
+-- ---- what holds of all walked segments, by one induction
+
+module _ (bs : List ℕ) (P : ℕ → ℕ → List ℕ → Type 0) (stop : (n p : ℕ) → P n p []) (more : (n p : ℕ) (l : List ℕ) → p < length bs → Segment bs p → P n (nextSegment bs p) l → P (suc n) p (p ∷ l)) where
+  pub walked-ind : (n p : ℕ) → P n p (walkedFrom n bs p)
+  unfolding walkedFrom
+  walked-ind zero p = stop zero p
+  walked-ind (suc n) p = go (ltb p (length bs)) refl (first (segmentRows bs p)) refl (walked-ind n (nextSegment bs p))
+    where
+      go : (b : Bool) → ltb p (length bs) ≡ b → (v : Verdict) → first (segmentRows bs p) ≡ v → P n (nextSegment bs p) (walkedFrom n bs (nextSegment bs p))
+          → P (suc n) p (cond b (ifAccepted v (p ∷ walkedFrom n bs (nextSegment bs p)) []) [])
+      go false e v f ih = stop (suc n) p
+      go true e Accepted f ih = more n p _ (ltb-true p (length bs) e) (segment-ok bs p f) ih
+      go true e (Refused m a) f ih = stop (suc n) p
+
+abbrev pub Rising : List ℕ → Type 0
+Rising l = (i j : ℕ) → i < j → j < length l → getD l i 0 < getD l j 0
+
+-- l are at most n positions from p on: they rise, and each is that of a segment
+pub record Places (bs : List ℕ) (n p : ℕ) (l : List ℕ) : Type 0 where
+  pub few : length l ≤ n
+  pub from : Each (λ q. p ≤ q) l
+  pub rising : Rising l
+  pub segment : Each (Segment bs) l
+
+no-places : (bs : List ℕ) (n p : ℕ) → Places bs n p []
+no-places bs n p = record { few = omega arith; from = λ i h. absurd (omega arith); rising = λ i j h k. absurd (omega arith); segment = λ i h. absurd (omega arith) }
+
+more-places : (bs : List ℕ) (n p : ℕ) (l : List ℕ) → p < length bs → Segment bs p → Places bs n (nextSegment bs p) l → Places bs (suc n) p (p ∷ l)
+more-places bs n p l h s r = record { few = omega (arith, r .few); from = from′; rising = rise; segment = all }
+  where
+    later : (i : ℕ) → i < length l → p < getD l i 0
+    later i k = omega (arith, r .from i k, next-is bs p)
+
+    from′ : Each (λ q. p ≤ q) (p ∷ l)
+    from′ zero k = omega arith
+    from′ (suc i) k = omega (arith, later i (omega arith))
+
+    rise : Rising (p ∷ l)
+    rise zero zero u k = absurd (omega arith)
+    rise zero (suc j) u k = later j (omega arith)
+    rise (suc i) zero u k = absurd (omega arith)
+    rise (suc i) (suc j) u k = r .rising i j (omega arith) (omega arith)
+
+    all : Each (Segment bs) (p ∷ l)
+    all zero k = s
+    all (suc i) k = r .segment i (omega arith)
+
+pub places-from : (bs : List ℕ) (n p : ℕ) → Places bs n p (walkedFrom n bs p)
+places-from bs = walked-ind bs (Places bs) (no-places bs) (more-places bs)
+
+-- ---- the walked segments of a file
+
+pub walked-places : (bs : List ℕ) → Places bs 8192 0 (walked bs)
+unfolding walked
+walked-places bs = go (lengthBad bs)
+  where
+    go : (b : Bool) → Places bs 8192 0 (cond b [] (walkedFrom 8192 bs 0))
+    go true = no-places bs 8192 0
+    go false = places-from bs 8192 0
+
+pub walked-few : (bs : List ℕ) → length (walked bs) ≤ 8192
+walked-few bs = walked-places bs .few
+
+pub walked-rising : (bs : List ℕ) → Rising (walked bs)
+walked-rising bs = walked-places bs .rising
+
+pub walked-segment : (bs : List ℕ) (q : ℕ) → member q (walked bs) ≡ true → Segment bs q
+walked-segment bs q e = member-all (Segment bs) (walked bs) q (walked-places bs .segment) e
+
+pub walked-sized : (bs : List ℕ) (q : ℕ) → member q (walked bs) ≡ true → Sized bs q
+walked-sized bs q e = sizes-ok bs q (walked-segment bs q e .sizes)
+
+pub walked-room : (bs : List ℕ) (q : ℕ) (name : List ℕ) → walkedAs bs q name ≡ true → q + 32 + room bs q ≤ length bs
+unfolding walkedAs
+walked-room bs q name e = room-within bs q (walked-sized bs q (and-both _ _ e .0))
