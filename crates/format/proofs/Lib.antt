@@ -4,3 +4,8 @@ pub mod Below
 pub mod Firsts
 pub mod Members
 pub mod SegmentLaws
+pub mod Walk
+pub mod ChunkWalk
+pub mod EntryRows
+pub mod FileRows
+pub mod Acceptance

@@ -1,22 +1,20 @@
 -- What the tests of segments tell where they do not refuse, and what holds of every walked segment. Assumes nothing.
 use Prim.Native.Nat.{ℕ, zero, suc, _+_, _%_, _^_, _≤_, _<_}
-use mathlib.Core.Path.{_≡_, refl, sym, _∙_}
-use mathlib.Core.List.{List, [], _∷_, _++_}
-use mathlib.Core.Bool.{Bool, true, false, cond, not, _&&_}
+use mathlib.Core.Path.{_≡_, refl}
+use mathlib.Core.List.{List, [], _∷_}
+use mathlib.Core.Bool.{Bool, true, false, cond}
 use native.Mathlib.Omega.{arith}
 use lib.ListN.{length, getD}
 use lib.Dec.{eqb, ltb}
 use borrow.Author.Tests.{lt-ltb, le-ltb, ltb-true, ltb-false, eqb-true, eqb-false, not-false}
-use Rattle.format.specs.Bytes.{sameAt, anyOf}
-use Rattle.format.specs.Names.{nameFile}
-use Rattle.format.specs.Checks.{Check, row, first, ifAccepted}
-use Rattle.format.specs.Segments.{allocatedSize, usedSize, room, nextSegment, lengthBad, nameBad, allocatedBad, usedBad, endBad, sizesBad, roleBad, segmentRows, walkRows, walkedFrom, walked, member, walkedAs}
-use Rattle.format.specs.WellFormed.{Each, Segment}
+use Rattle.format.specs.Checks.{first, ifAccepted}
+use Rattle.format.specs.Segments.{allocatedSize, usedSize, room, nextSegment, lengthBad, allocatedBad, usedBad, endBad, sizesBad, roleBad, segmentRows, walkRows, walkedFrom, walked, member, walkedAs}
+use Rattle.format.specs.WellFormed.{Each, Segment, Names}
 use Rattle.format.specs.declared.Verdict.{Verdict}
 use Rattle.format.specs.declared.Verdict.the-variants.{Accepted, Refused}
 use Rattle.format.proofs.Below.{none, and-both}
 use Rattle.format.proofs.Firsts.{passed, first-pass}
-use Rattle.format.proofs.Members.{member-all}
+use Rattle.format.proofs.Members.{member-all, among-member, member-among}
 
 -- ---- refusal 1 is not given
 
@@ -175,3 +173,13 @@ walked-sized bs q e = sizes-ok bs q (walked-segment bs q e .sizes)
 pub walked-room : (bs : List ℕ) (q : ℕ) (name : List ℕ) → walkedAs bs q name ≡ true → q + 32 + room bs q ≤ length bs
 unfolding walkedAs
 walked-room bs q name e = room-within bs q (walked-sized bs q (and-both _ _ e .0))
+
+-- ---- naming a segment
+
+pub names-ok : (bs : List ℕ) (q : ℕ) (name : List ℕ) → walkedAs bs q name ≡ true → Names bs (walked bs) q name
+unfolding walkedAs
+names-ok bs q name e = let both = and-both _ _ e in (member-among q (walked bs) (both .0), both .1)
+
+pub names-accepted : (bs : List ℕ) (q : ℕ) (name : List ℕ) → Names bs (walked bs) q name → walkedAs bs q name ≡ true
+unfolding walkedAs
+names-accepted bs q name n = rw (among-member q (walked bs) (n .0), n .1)

@@ -1,6 +1,6 @@
 -- Segments: the header, the refusals 1 to 5, the walk, and the walked segments.
 -- A segment is given by its position, the file offset of its header's first byte.
-use Prim.Native.Nat.{ℕ, zero, suc, _+_, _%_, _^_}
+use Prim.Native.Nat.{ℕ, zero, suc, _+_, _%_, _^_, _≤_}
 use mathlib.Core.List.{List, [], _∷_, _++_}
 use mathlib.Core.Bool.{Bool, true, false, cond, not, _&&_, _||_}
 use lib.ListN.{length}
@@ -20,6 +20,10 @@ usedSize bs p = u64At bs (p + 24)
 -- the room: UsedSize, where 0 is read as AllocatedSize
 unfoldable pub room : List ℕ → ℕ → ℕ
 room bs p = cond (eqb (usedSize bs p) 0) (allocatedSize bs p) (usedSize bs p)
+
+-- the room of the segment at p lies in the file
+abbrev pub RoomIn : List ℕ → ℕ → Type 0
+RoomIn bs p = p + 32 + room bs p ≤ length bs
 
 -- the position of the next header
 unfoldable pub nextSegment : List ℕ → ℕ → ℕ
