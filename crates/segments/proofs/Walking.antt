@@ -103,19 +103,7 @@ filled bs before after r h a e =
       holds = rw (n, a .table-is) (take-append-seam (walked bs) _);
     }
 
--- the file has the fixed part of the file segment, and its positions are small
-pub record Accepts (bs : List ℕ) : Type 0 where
-  pub long : 112 ≤ length bs
-  pub small : length bs ≤ 2 ^ 40
-
-pub accepts : (bs : List ℕ) → first (segmentsRows bs) ≡ Accepted → Accepts bs
-unfolding segmentsRows walkRows
-accepts bs e =
-    let f = first-passed (lengthBad bs) 1 0 (first (walkRows 8192 bs 0)) e in
-    let l = length-ok bs (f .0) in
-    record { long = start (l .some) (f .1); small = l .small }
-  where
-    start : 0 < length bs → first (walkRows 8192 bs 0) ≡ Accepted → 112 ≤ length bs
-    start h w =
-        let s = first-both (segmentRows bs 0) (walkRows 8191 bs (nextSegment bs 0)) (rw (lt-ltb 0 (length bs) h) at w) .0 in
-        omega (arith, role-room bs (segment-ok bs 0 s .role), room-within bs 0 (accepted-sized bs 0 s))
+-- the file's positions are small; `file-long` of the format says that it has the fixed part of the file segment
+pub file-small : (bs : List ℕ) → first (segmentsRows bs) ≡ Accepted → length bs ≤ 2 ^ 40
+unfolding segmentsRows
+file-small bs e = length-ok bs (first-passed (lengthBad bs) 1 0 (first (walkRows 8192 bs 0)) e .0) .small

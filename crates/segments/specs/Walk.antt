@@ -12,6 +12,11 @@ use Rattle.segments.specs.declared.Walked.{Walked}
 abbrev pub counted : Verdict → List ℕ → ℕ
 counted v l = ifAccepted v (length l) 0
 
+-- the answer r where the verdict is v and the walked positions are l
+pub record Judged (v : Verdict) (l : List ℕ) (r : Walked) : Type 0 where
+  pub verdict-is : r .verdict ≡ v
+  pub count-is : r .count ≡ counted v l
+
 -- the answer r of a walk whose verdict is v and whose walked positions are l: the table holds them from its start, and past them what it held before
 pub record Answered (v : Verdict) (l before after : List ℕ) (r : Walked) : Type 0 where
   pub verdict-is : r .verdict ≡ v

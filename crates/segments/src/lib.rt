@@ -3,13 +3,13 @@ ghost use mathlib.Core.Path.{_≡_};
 ghost use Prim.Native.Nat.{_+_, _≤_, _%_};
 ghost use lib.ListN.{length, take};
 ghost use Rattle.format.specs.Bytes.{sameAt};
-ghost use Rattle.format.specs.Names.{nameFile};
+ghost use Rattle.format.specs.Names.{nameFile, nameDirectory, nameSubBlock, nameMetadata, nameAttachment, nameAttachmentDirectory, nameDeleted};
 ghost use Rattle.format.specs.Checks.{first};
 ghost use Rattle.format.specs.Segments.{allocatedSize, usedSize, room, lengthBad, nameBad, allocatedBad, usedBad, endBad, sizesBad, roleBad, segmentRows, walkRows, walkedFrom, walked, segmentsRows, member, walkedAs};
 ghost use Rattle.format.proofs.SegmentLaws.{Rising};
-ghost use Rattle.segments.specs.Walk.{Answered, Filled, counted};
-
-use fields::{same_at, u64_at};
+ghost use Rattle.segments.specs.Walk.{Answered, Filled, Judged};
+use fields::same_at;
+use fields::u64_at;
 use format::Verdict;
 
 // The verdict on the segments, with their number: 0 where they are refused.
@@ -40,8 +40,9 @@ pub fn room_at(s: &[u8], p: u64) -> u64
     ensures { λ r. ⌜ r ≡ room (now (s .entry)) p ⌝ }
 {
     let used = used_at(s, p);
+    let allocated = allocated_at(s, p);
     if used == 0 {
-        return allocated_at(s, p);
+        return allocated;
     }
     used
 }
@@ -64,12 +65,60 @@ fn length_bad(s: &[u8]) -> bool
     false
 }
 
-// Whether the segment at p has the name of the file segment.
+// Whether the name at p is that of the file segment.
 fn is_file(s: &[u8], p: u64) -> bool
     requires { ⌜ p + 32 ≤ length (now s) ⌝ }
     ensures { λ r. ⌜ r ≡ sameAt (now (s .entry)) p nameFile ⌝ }
 {
     same_at(s, p, b"ZISRAWFILE\0\0\0\0\0\0")
+}
+
+// Whether the name at p is that of a sub-block directory.
+fn is_directory(s: &[u8], p: u64) -> bool
+    requires { ⌜ p + 32 ≤ length (now s) ⌝ }
+    ensures { λ r. ⌜ r ≡ sameAt (now (s .entry)) p nameDirectory ⌝ }
+{
+    same_at(s, p, b"ZISRAWDIRECTORY\0")
+}
+
+// Whether the name at p is that of a sub-block.
+fn is_sub_block(s: &[u8], p: u64) -> bool
+    requires { ⌜ p + 32 ≤ length (now s) ⌝ }
+    ensures { λ r. ⌜ r ≡ sameAt (now (s .entry)) p nameSubBlock ⌝ }
+{
+    same_at(s, p, b"ZISRAWSUBBLOCK\0\0")
+}
+
+// Whether the name at p is that of a metadata segment.
+fn is_metadata(s: &[u8], p: u64) -> bool
+    requires { ⌜ p + 32 ≤ length (now s) ⌝ }
+    ensures { λ r. ⌜ r ≡ sameAt (now (s .entry)) p nameMetadata ⌝ }
+{
+    same_at(s, p, b"ZISRAWMETADATA\0\0")
+}
+
+// Whether the name at p is that of an attachment.
+fn is_attachment(s: &[u8], p: u64) -> bool
+    requires { ⌜ p + 32 ≤ length (now s) ⌝ }
+    ensures { λ r. ⌜ r ≡ sameAt (now (s .entry)) p nameAttachment ⌝ }
+{
+    same_at(s, p, b"ZISRAWATTACH\0\0\0\0")
+}
+
+// Whether the name at p is that of an attachment directory.
+fn is_attachment_directory(s: &[u8], p: u64) -> bool
+    requires { ⌜ p + 32 ≤ length (now s) ⌝ }
+    ensures { λ r. ⌜ r ≡ sameAt (now (s .entry)) p nameAttachmentDirectory ⌝ }
+{
+    same_at(s, p, b"ZISRAWATTDIR\0\0\0\0")
+}
+
+// Whether the name at p is that of a deleted segment.
+fn is_deleted(s: &[u8], p: u64) -> bool
+    requires { ⌜ p + 32 ≤ length (now s) ⌝ }
+    ensures { λ r. ⌜ r ≡ sameAt (now (s .entry)) p nameDeleted ⌝ }
+{
+    same_at(s, p, b"DELETED\0\0\0\0\0\0\0\0\0")
 }
 
 // Refusal 2: unknown name.
@@ -80,22 +129,22 @@ fn name_bad(s: &[u8], p: u64) -> bool
     if is_file(s, p) {
         return false;
     }
-    if same_at(s, p, b"ZISRAWDIRECTORY\0") {
+    if is_directory(s, p) {
         return false;
     }
-    if same_at(s, p, b"ZISRAWSUBBLOCK\0\0") {
+    if is_sub_block(s, p) {
         return false;
     }
-    if same_at(s, p, b"ZISRAWMETADATA\0\0") {
+    if is_metadata(s, p) {
         return false;
     }
-    if same_at(s, p, b"ZISRAWATTACH\0\0\0\0") {
+    if is_attachment(s, p) {
         return false;
     }
-    if same_at(s, p, b"ZISRAWATTDIR\0\0\0\0") {
+    if is_attachment_directory(s, p) {
         return false;
     }
-    if same_at(s, p, b"DELETED\0\0\0\0\0\0\0\0\0") {
+    if is_deleted(s, p) {
         return false;
     }
     true
@@ -261,7 +310,7 @@ pub fn walk(s: &[u8], table: &mut [u64; 8192]) -> Walked
 
 // Refusals 1 to 5, and the number of segments where there is none.
 pub fn judge_segments(s: &[u8]) -> Walked
-    ensures { λ r. ⌜ (r .verdict ≡ first (segmentsRows (now (s .entry)))) × (r .count ≡ counted (first (segmentsRows (now (s .entry)))) (walked (now (s .entry)))) ⌝ }
+    ensures { λ r. ⌜ Judged (first (segmentsRows (now (s .entry)))) (walked (now (s .entry))) r ⌝ }
 {
     let mut table = [0u64; 8192];
     walk(s, &mut table)

@@ -4,28 +4,21 @@ use Rattle.format.specs.Segments.{allocatedBad}
 use borrow.Author.Needs.{needs}
 use Rattle.segments.proofs.allocated_bad.Statement.{statement}
 use Rattle.segments.proofs.allocated_bad.Tie as tie
-use Rattle.segments.proofs.allocated_bad.Reads as reads
-use Rattle.segments.proofs.allocated_bad.Lts as lts
-use Rattle.segments.proofs.allocated_at.Reads as allocated-at-reads
 
--- src/lib.rt:109:9
 allocated-at-requires : tie.Need-allocated-at-requires
 allocated-at-requires c κs = search needs
 
--- src/lib.rt:111:9
 returns : tie.Need-returns
 unfolding allocatedBad
 returns c = search (flags, whole-yes, whole-no) depth 8
 
--- src/lib.rt:115:9
 returns-2 : tie.Need-returns-2
 unfolding allocatedBad
 returns-2 c = search (flags, whole-yes, whole-no) depth 8
 
--- src/lib.rt:105:1
 returns-3 : tie.Need-returns-3
 unfolding allocatedBad
-returns-3 c = search (flags, whole-yes, whole-no) depth 8
+returns-3 c = search (flags, whole-yes) depth 8
 
 pub allocated-bad-spec : {M : Type 1} → statement M
 allocated-bad-spec = tie.close (tie.spec allocated-at-requires returns returns-2 returns-3)

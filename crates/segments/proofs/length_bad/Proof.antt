@@ -2,25 +2,19 @@ use Rattle.format.proofs.Flags.{flags}
 use Rattle.format.specs.Segments.{lengthBad}
 use Rattle.segments.proofs.length_bad.Statement.{statement}
 use Rattle.segments.proofs.length_bad.Tie as tie
-use Rattle.segments.proofs.length_bad.Reads as reads
-use Rattle.segments.proofs.length_bad.Lts as lts
 
--- src/lib.rt:55:9
 returns : tie.Need-returns
 unfolding lengthBad
 returns c = search flags depth 8
 
--- src/lib.rt:59:9
 returns-2 : tie.Need-returns-2
 unfolding lengthBad
 returns-2 c = search flags depth 8
 
--- src/lib.rt:62:9
 returns-3 : tie.Need-returns-3
 unfolding lengthBad
 returns-3 c = search flags depth 8
 
--- src/lib.rt:50:1
 returns-4 : tie.Need-returns-4
 unfolding lengthBad
 returns-4 c = search flags depth 8

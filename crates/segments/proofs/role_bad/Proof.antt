@@ -3,35 +3,25 @@ use Rattle.format.specs.Segments.{roleBad}
 use borrow.Author.Needs.{needs}
 use Rattle.segments.proofs.role_bad.Statement.{statement}
 use Rattle.segments.proofs.role_bad.Tie as tie
-use Rattle.segments.proofs.role_bad.Reads as reads
-use Rattle.segments.proofs.role_bad.Lts as lts
-use Rattle.segments.proofs.is_file.Reads as is-file-reads
-use Rattle.segments.proofs.room_at.Reads as room-at-reads
 
--- src/lib.rt:166:9
 is-file-requires : tie.Need-is-file-requires
 is-file-requires c κs = search needs
 
--- src/lib.rt:168:9
 returns : tie.Need-returns
 unfolding roleBad
 returns c = search flags depth 8
 
--- src/lib.rt:171:9
 returns-2 : tie.Need-returns-2
 unfolding roleBad
 returns-2 c = search flags depth 8
 
--- src/lib.rt:173:8
 room-at-requires : tie.Need-room-at-requires
 room-at-requires c κs = search needs
 
--- src/lib.rt:174:9
 returns-3 : tie.Need-returns-3
 unfolding roleBad
 returns-3 c = search flags depth 8
 
--- src/lib.rt:162:1
 returns-4 : tie.Need-returns-4
 unfolding roleBad
 returns-4 c = search flags depth 8

@@ -3,25 +3,17 @@ use Rattle.format.specs.Segments.{room}
 use borrow.Author.Needs.{needs}
 use Rattle.segments.proofs.room_at.Statement.{statement}
 use Rattle.segments.proofs.room_at.Tie as tie
-use Rattle.segments.proofs.room_at.Reads as reads
-use Rattle.segments.proofs.room_at.Lts as lts
-use Rattle.segments.proofs.allocated_at.Reads as allocated-at-reads
-use Rattle.segments.proofs.used_at.Reads as used-at-reads
 
--- src/lib.rt:42:9
 used-at-requires : tie.Need-used-at-requires
 used-at-requires c κs = search needs
 
--- src/lib.rt:44:9
 allocated-at-requires : tie.Need-allocated-at-requires
 allocated-at-requires c κs = search needs
 
--- src/lib.rt:44:9
 returns : tie.Need-returns
 unfolding room
 returns c = search flags depth 8
 
--- src/lib.rt:38:1
 returns-2 : tie.Need-returns-2
 unfolding room
 returns-2 c = search flags depth 8

@@ -3,35 +3,24 @@ use Rattle.format.specs.Segments.{sizesBad}
 use borrow.Author.Needs.{needs}
 use Rattle.segments.proofs.sizes_bad.Statement.{statement}
 use Rattle.segments.proofs.sizes_bad.Tie as tie
-use Rattle.segments.proofs.sizes_bad.Reads as reads
-use Rattle.segments.proofs.sizes_bad.Lts as lts
-use Rattle.segments.proofs.allocated_bad.Reads as allocated-bad-reads
-use Rattle.segments.proofs.end_bad.Reads as end-bad-reads
-use Rattle.segments.proofs.used_bad.Reads as used-bad-reads
 
--- src/lib.rt:152:8
 allocated-bad-requires : tie.Need-allocated-bad-requires
 allocated-bad-requires c κs = search needs
 
--- src/lib.rt:153:9
 returns : tie.Need-returns
 unfolding sizesBad
 returns c = search flags depth 8
 
--- src/lib.rt:155:8
 used-bad-requires : tie.Need-used-bad-requires
 used-bad-requires c κs = search needs
 
--- src/lib.rt:156:9
 returns-2 : tie.Need-returns-2
 unfolding sizesBad
 returns-2 c = search flags depth 8
 
--- src/lib.rt:158:5
 end-bad-requires : tie.Need-end-bad-requires
 end-bad-requires c κs = search needs
 
--- src/lib.rt:148:1
 returns-3 : tie.Need-returns-3
 unfolding sizesBad
 returns-3 c = search flags depth 8

@@ -6,10 +6,6 @@ use native.Mathlib.Omega.{arith}
 use lib.ListN.{length}
 use Rattle.segments.proofs.walk_segments.Statement.{statement}
 use Rattle.segments.proofs.walk_segments.Tie as tie
-use Rattle.segments.proofs.walk_segments.Reads as reads
-use Rattle.segments.proofs.walk_segments.Lts as lts
-use Rattle.segments.proofs.allocated_at.Reads as allocated-at-reads
-use Rattle.segments.proofs.judge_segment.Reads as judge-segment-reads
 use Rattle.format.proofs.SegmentLaws.{walk-end, walked-end, next-is}
 use Rattle.segments.proofs.Walking.{Walking, walking-start, walking-next, answered-refused, answered-accepted, less, walk-full, walked-full, walk-stop, walked-stop, accepted-sized}
 
@@ -19,11 +15,9 @@ Inv-loop s table₀ len p₀ k₀ table p k = (len ≡ length s) × Walking s ta
 abbrev μ-loop : tie.MeasureT-loop
 μ-loop s table₀ len p₀ k₀ table p k = length s - p
 
--- src/lib.rt:214:5
 loop-holds : tie.Need-loop-holds Inv-loop μ-loop
 loop-holds c = (refl, walking-start _ _ _ (c .before .pre .1))
 
--- src/lib.rt:216:13
 returns : tie.Need-returns Inv-loop μ-loop
 returns c =
     let w = c .before .before .loop .inv .1 in
@@ -31,55 +25,56 @@ returns c =
     let more : c .before .before .loop .p < length (now (c .before .before .before .before .args .s)) = omega arith in
     answered-refused _ _ _ _ _ _ w _ _ (rw full (walk-full _ _ more)) (rw full (walked-full _ _))
 
--- src/lib.rt:224:13
 judge-segment-requires : tie.Need-judge-segment-requires Inv-loop μ-loop
 judge-segment-requires c κs = omega arith
 
--- src/lib.rt:227:17
 enum-told : tie.Need-enum-told Inv-loop μ-loop
 enum-told c = search needs
 
--- src/lib.rt:227:17
 mul-table : tie.Need-mul-table Inv-loop μ-loop
 mul-table c = omega arith
 
--- src/lib.rt:227:17
 element-write-table : tie.Need-element-write-table Inv-loop μ-loop
 element-write-table c = omega arith
 
--- src/lib.rt:228:17
 add-k : tie.Need-add-k Inv-loop μ-loop
 add-k c = omega arith
 
--- src/lib.rt:229:21
 add-p : tie.Need-add-p Inv-loop μ-loop
 add-p c = omega arith
 
--- src/lib.rt:229:30
 allocated-at-requires : tie.Need-allocated-at-requires Inv-loop μ-loop
 allocated-at-requires c κs = omega arith
 
--- src/lib.rt:229:21
 add-p-2 : tie.Need-add-p-2 Inv-loop μ-loop
-add-p-2 c = ?
+add-p-2 c =
+    let j = c .before .before .before in
+    let s = accepted-sized _ _ (sym (j .judge-segment .ensures) ∙ c .before .enum-told .given .1) in
+    let n = next-is (now (j .before .before .before .before .before .args .s)) (j .before .before .before .loop .p) in
+    omega (arith, s .within)
 
--- src/lib.rt:214:5
 loop-less : tie.Need-loop-less Inv-loop μ-loop
-loop-less c = ?
+loop-less c = omega arith
 
--- src/lib.rt:214:5
 loop-again : tie.Need-loop-again Inv-loop μ-loop
-loop-again c = ?
+loop-again c =
+    let j = c .before .before .before in
+    let e = sym (j .judge-segment .ensures) ∙ c .before .enum-told .given .1 in
+    let n = next-is (now (j .before .before .before .before .before .args .s)) (j .before .before .before .loop .p) in
+    (refl, walking-next _ _ _ _ _ _ (j .before .before .before .loop .inv .1) _ (omega arith) (omega arith) (omega arith) e)
 
--- src/lib.rt:231:32
 enum-known-judged : tie.Need-enum-known-judged Inv-loop μ-loop
 enum-known-judged c = search needs
 
--- src/lib.rt:232:17
 returns-2 : tie.Need-returns-2 Inv-loop μ-loop
-returns-2 c = ?
+returns-2 c =
+    let j = c .before .before .before in
+    let w = j .before .before .before .loop .inv .1 in
+    let e = sym (j .judge-segment .ensures) ∙ c .before .judged .given .1 in
+    let more : j .before .before .before .loop .p < length (now (j .before .before .before .before .before .args .s)) = omega arith in
+    let left = less _ _ _ _ _ _ w (omega arith) in
+    answered-refused _ _ _ _ _ _ w _ _ (rw left (walk-stop _ _ _ _ _ more e)) (rw left (walked-stop _ _ _ _ _ more e))
 
--- src/lib.rt:206:1
 returns-3 : tie.Need-returns-3 Inv-loop μ-loop
 returns-3 c =
     let w = c .before .loop .inv .1 in
