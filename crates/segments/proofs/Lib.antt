@@ -1,0 +1,4 @@
+-- Laws of the walk and of the search in its table.
+pub mod Leaves
+pub mod Search
+pub mod Walking

@@ -1,0 +1,17 @@
+use Rattle.format.specs.Names.{nameAttachment}
+use borrow.Author.Needs.{needs}
+use Rattle.segments.proofs.is_attachment.Statement.{statement}
+use Rattle.segments.proofs.is_attachment.Tie as tie
+
+slice-aggregate-same-at : tie.Need-slice-aggregate-same-at
+slice-aggregate-same-at c = search needs
+
+same-at-requires : tie.Need-same-at-requires
+same-at-requires c κs = search needs
+
+returns : tie.Need-returns
+unfolding nameAttachment
+returns c = c .same-at .ensures
+
+pub is-attachment-spec : {M : Type 1} → statement M
+is-attachment-spec = tie.close (tie.spec slice-aggregate-same-at same-at-requires returns)

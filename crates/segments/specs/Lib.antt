@@ -1,0 +1,2 @@
+-- What a walk answers.
+pub mod Walk

@@ -1,0 +1,30 @@
+-- What a walk answers, and the table that it leaves.
+use Prim.Native.Nat.{ℕ, _≤_}
+use mathlib.Core.Path.{_≡_}
+use mathlib.Core.List.{List, _++_}
+use lib.ListN.{length, take, drop}
+use Rattle.format.specs.Checks.{ifAccepted}
+use Rattle.format.specs.Segments.{walked}
+use Rattle.format.specs.declared.Verdict.{Verdict}
+use Rattle.segments.specs.declared.Walked.{Walked}
+
+-- how many segments are reported beside a verdict: none where it refuses
+abbrev pub counted : Verdict → List ℕ → ℕ
+counted v l = ifAccepted v (length l) 0
+
+-- the answer r where the verdict is v and the walked positions are l
+pub record Judged (v : Verdict) (l : List ℕ) (r : Walked) : Type 0 where
+  pub verdict-is : r .verdict ≡ v
+  pub count-is : r .count ≡ counted v l
+
+-- the answer r of a walk whose verdict is v and whose walked positions are l: the table holds them from its start, and past them what it held before
+pub record Answered (v : Verdict) (l before after : List ℕ) (r : Walked) : Type 0 where
+  pub verdict-is : r .verdict ≡ v
+  pub count-is : r .count ≡ counted v l
+  pub table-is : after ≡ l ++ drop (length l) before
+
+-- the table holds the walked positions of bs at its start, as many as count
+pub record Filled (bs table : List ℕ) (count : ℕ) : Type 0 where
+  pub size : length table ≡ 8192
+  pub few : count ≤ 8192
+  pub holds : take count table ≡ walked bs
