@@ -1,0 +1,3 @@
+-- Laws of chunks and masks.
+pub mod MaskLaws
+pub mod ChunkLaws

@@ -1,0 +1,102 @@
+use Prim.Native.Nat.{_+_, _-_, _≤_}
+use denote.Ref.{now}
+use mathlib.Core.Path.{_≡_, refl, sym, _∙_}
+use mathlib.Core.Bool.{true, false}
+use native.Mathlib.Omega.{arith}
+use lib.ListN.{length, getD}
+use lib.Dec.{eqb}
+use borrow.Author.Tests.{eq-eqb, ne-eqb}
+use Rattle.format.specs.Bytes.{allBelow, anyBelow, sameAt}
+use Rattle.format.proofs.Below.{any-zero, any-more, any-found, all-zero, all-more, all-fails}
+use Rattle.masks.proofs.stands.Statement.{statement}
+use Rattle.masks.proofs.stands.Tie as tie
+
+abbrev Inv-loop : tie.InvT-loop
+Inv-loop s p count m found i₀ at j₀ i j = (i ≡ i₀) × (j ≤ length m) × (allBelow j (λ k. eqb (getD s (at + k) 0) (getD m k 0)) ≡ true)
+
+abbrev μ-loop : tie.MeasureT-loop
+μ-loop s p count m found i₀ at j₀ i j = length m - j
+
+abbrev Inv-outer : tie.InvT-outer
+Inv-outer s p count m found₀ i₀ found i = (found ≡ false) × (i ≤ count) × (anyBelow i (λ k. sameAt s (p + k) m) ≡ false)
+
+abbrev μ-outer : tie.MeasureT-outer
+μ-outer s p count m found₀ i₀ found i = count - i
+
+outer-holds : tie.Need-outer-holds Inv-loop μ-loop Inv-outer μ-outer
+outer-holds c = (refl, omega arith, any-zero _)
+
+add-at : tie.Need-add-at Inv-loop μ-loop Inv-outer μ-outer
+add-at c = omega arith
+
+loop-holds : tie.Need-loop-holds Inv-loop μ-loop Inv-outer μ-outer
+loop-holds c = (refl, omega arith, all-zero _)
+
+add-if1 : tie.Need-add-if1 Inv-loop μ-loop Inv-outer μ-outer
+add-if1 c = omega arith
+
+shared-slice-read-if1 : tie.Need-shared-slice-read-if1 Inv-loop μ-loop Inv-outer μ-outer
+shared-slice-read-if1 c = omega arith
+
+shared-slice-read-if1-2 : tie.Need-shared-slice-read-if1-2 Inv-loop μ-loop Inv-outer μ-outer
+shared-slice-read-if1-2 c = omega arith
+
+add-i : tie.Need-add-i Inv-loop μ-loop Inv-outer μ-outer
+add-i c = omega arith
+
+outer-less : tie.Need-outer-less Inv-loop μ-loop Inv-outer μ-outer
+outer-less c = omega arith
+
+outer-again : tie.Need-outer-again Inv-loop μ-loop Inv-outer μ-outer
+unfolding sameAt
+outer-again c =
+    let l = c .before .before .before .before in
+    let o = l .before .before in
+    (o .outer .inv .0, omega arith, rw (l .loop .inv .0) (any-more _ _ (o .outer .inv .2) (all-fails _ _ _ (c .before .before .before .loop-test .taken) (ne-eqb _ _ (c .if1 .taken)))))
+
+add-j : tie.Need-add-j Inv-loop μ-loop Inv-outer μ-outer
+add-j c = omega arith
+
+loop-less : tie.Need-loop-less Inv-loop μ-loop Inv-outer μ-outer
+loop-less c = omega arith
+
+loop-again : tie.Need-loop-again Inv-loop μ-loop Inv-outer μ-outer
+loop-again c =
+    let l = c .before .before .before .before in
+    (l .loop .inv .0, omega arith, all-more _ _ (l .loop .inv .2) (eq-eqb _ _ (c .if1 .left)))
+
+returns : tie.Need-returns Inv-loop μ-loop Inv-outer μ-outer
+returns c =
+    let e : c .before .outer .i ≡ c .before .before .args .count = omega arith in
+    c .before .outer .inv .0 ∙ rw (← e) (sym (c .before .outer .inv .2))
+
+returns-2 : tie.Need-returns-2 Inv-loop μ-loop Inv-outer μ-outer
+unfolding sameAt
+returns-2 c =
+    let l = c .before in
+    let o = l .before .before in
+    let e : l .loop .j ≡ length (now (o .before .args .m)) = omega arith in
+    sym (any-found _ (o .outer .i) _ (omega arith) (rw (← e) (l .loop .inv .2)))
+
+pub stands-spec : {M : Type 1} → statement M
+stands-spec =
+    tie.close
+    (tie.spec
+    Inv-loop
+    μ-loop
+    Inv-outer
+    μ-outer
+    outer-holds
+    add-at
+    loop-holds
+    add-if1
+    shared-slice-read-if1
+    shared-slice-read-if1-2
+    add-i
+    outer-less
+    outer-again
+    add-j
+    loop-less
+    loop-again
+    returns
+    returns-2)
