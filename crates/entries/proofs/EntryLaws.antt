@@ -1,12 +1,14 @@
 -- What follows for an entry that is not refused: its mark and number of dimensions, its X and Y, and the bounds of a dimension. Assumes nothing.
-use Prim.Native.Nat.{ℕ, _+_, _^_, _≤_, _<_}
+use Prim.Native.Nat.{ℕ, suc, _+_, _-_, _^_, _≤_, _<_}
 use mathlib.Core.Path.{_≡_, refl, sym}
 use mathlib.Core.List.{List, [], _∷_}
 use mathlib.Core.Bool.{Bool, true, false, cond, not, true≢false}
 use native.Mathlib.Omega.{arith}
-use lib.Dec.{eqb, leb}
-use borrow.Author.Tests.{ltb-false, leb-false, eqb-true, eqb-false, not-false}
-use Rattle.format.specs.Bytes.{sameAt, anyOf, anyBelow, leastBelow, biased}
+use lib.Dec.{eqb, leb, ltb}
+use lib.IntN.{pos, negsuc, _+ℤ_, _-ℤ_}
+use lib.Signed.{mag}
+use borrow.Author.Tests.{lt-ltb, ltb-true, ltb-false, leb-false, eqb-true, eqb-false, not-false}
+use Rattle.format.specs.Bytes.{sameAt, anyOf, anyBelow, leastBelow, signed32, biased}
 use Rattle.format.specs.Names.{markTile}
 use Rattle.format.specs.Entry.{dimensionCount, letter, start, size, stored, storedField, dimensionPlace, nextEntry, headBad, letterBad, tooFar, isPlane, sizeBad, dimensionBad, hasLetter, repeats, closesPlane, dimensionsBad, letterIndex, letterPlace, pixelBytes}
 use Rattle.format.proofs.Below.{none, any-found, any-none, least-is, least-none}
@@ -88,6 +90,25 @@ dimension-ok bs d h =
       end = end-ok bs d (sizes .1) (none _ h 1);
     }
 
+-- the end of such a dimension as a signed number: an i32 holds it
+pub end-signed : (x z : ℕ) → x < 2 ^ 32 → biased x + z < 2 ^ 32 → mag (signed32 x +ℤ pos z) < 2 ^ 31
+unfolding biased signed32
+end-signed x z fits h = go (ltb x (2 ^ 31)) refl
+  where
+    sum : (b : Bool) → ltb z (suc (2 ^ 32 - suc x)) ≡ b → 2 ^ 31 ≤ x → mag (cond b (negsuc (suc (2 ^ 32 - suc x) - suc z)) (pos (z - suc (2 ^ 32 - suc x)))) < 2 ^ 31
+    sum true e l = omega arith
+    sum false e l = omega (arith, ltb-false z (suc (2 ^ 32 - suc x)) e)
+
+    go : (b : Bool) → ltb x (2 ^ 31) ≡ b → mag (cond b (pos x) (pos x -ℤ pos (2 ^ 32)) +ℤ pos z) < 2 ^ 31
+    go true e = omega (arith, ltb-true x (2 ^ 31) e)
+    go false e = rw (lt-ltb x (2 ^ 32) fits) (sum (ltb z (suc (2 ^ 32 - suc x))) refl (ltb-false x (2 ^ 31) e))
+
+-- ---- the place of a dimension
+
+pub dimension-within : (bs : List ℕ) (e k : ℕ) → k < dimensionCount bs e → dimensionPlace e k + 20 ≤ nextEntry bs e
+unfolding nextEntry
+dimension-within bs e k h = omega arith
+
 -- ---- the dimension of a letter
 
 -- it lies in the entry, or behind it where the entry lacks the letter
@@ -106,10 +127,10 @@ pub record Placed (bs : List ℕ) (e x : ℕ) : Type 0 where
   pub letter-is : letter bs (letterPlace bs e x) ≡ x
 
 pub letter-placed : (bs : List ℕ) (e x : ℕ) → anyBelow (dimensionCount bs e) (hasLetter bs e x) ≡ true → Placed bs e x
-unfolding letterIndex letterPlace nextEntry hasLetter
+unfolding letterIndex letterPlace hasLetter
 letter-placed bs e x h =
     let l = least-is (dimensionCount bs e) (hasLetter bs e x) h in
-    record { index = l .below; within = omega (arith, l .below); letter-is = eqb-true _ x (l .holds) }
+    record { index = l .below; within = dimension-within bs e _ (l .below); letter-is = eqb-true _ x (l .holds) }
 
 -- ---- the dimensions of an entry
 

@@ -51,7 +51,7 @@ fn letter_bad(s: &[u8], d: u64) -> bool
     false
 }
 
-// Start + Size is over 2^31 - 1: with 2^31 added to each.
+// Start + Size, as signed numbers, is over 2^31 - 1: each is taken with 2^31 added.
 fn too_far(s: &[u8], d: u64) -> bool
     requires { ⌜ d + 20 ≤ length (now s) ⌝ }
     ensures { λ r. ⌜ r ≡ tooFar (now (s .entry)) d ⌝ }

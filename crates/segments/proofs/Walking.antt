@@ -1,22 +1,19 @@
 -- The invariant of the walk's loop, and what an accepted walk tells. Assumes nothing.
-use Prim.Native.Nat.{ℕ, zero, suc, _+_, _-_, _%_, _^_, _≤_, _<_}
+use Prim.Native.Nat.{ℕ, suc, _+_, _-_, _%_, _^_, _≤_, _<_}
 use mathlib.Core.Path.{_≡_, refl, sym, ap, _∙_}
 use mathlib.Core.List.{List, [], _∷_, _++_, append-assoc, append-nil}
-use mathlib.Core.Bool.{Bool, true, false, cond}
 use native.Mathlib.Omega.{arith}
 use native.Mathlib.Nat.{sub-zero}
 use native.Mathlib.Numerals.{add-one}
 use lib.ListN.{length, take, drop, set, length-set, length-append, length-drop, take-append-drop}
 use lib.Seq.{take-suc-set, drop-set-lt, drop-drop, length-take-le, take-append-seam}
-use lib.Dec.{ltb}
 use borrow.Author.Tests.{lt-ltb}
-use Rattle.format.specs.Checks.{Check, row, first}
-use Rattle.format.specs.Segments.{allocatedSize, room, nextSegment, lengthBad, segmentRows, walkRows, walkedFrom, walked, segmentsRows}
-use Rattle.format.specs.declared.Verdict.{Verdict}
+use Rattle.format.specs.Checks.{first}
+use Rattle.format.specs.Segments.{nextSegment, lengthBad, segmentRows, walkRows, walkedFrom, walked, segmentsRows}
 use Rattle.format.specs.declared.Verdict.the-variants.{Accepted, Refused}
-use Rattle.format.proofs.Firsts.{first-both, first-passed, first-stop}
-use Rattle.format.proofs.SegmentLaws.{Sized, sizes-ok, length-ok, next-is, room-within, role-room, segment-ok, walk-next, walked-next, walked-few}
-use Rattle.segments.specs.Walk.{Answered, Filled, counted}
+use Rattle.format.proofs.Firsts.{first-passed, first-stop}
+use Rattle.format.proofs.SegmentLaws.{Sized, sizes-ok, length-ok, next-is, segment-ok, walk-next, walked-next, walked-few}
+use Rattle.segments.specs.Walk.{Answered, Filled}
 use Rattle.segments.specs.declared.Walked.{Walked}
 
 -- ---- one turn of the walk, where it stops

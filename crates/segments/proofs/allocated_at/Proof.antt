@@ -1,5 +1,5 @@
-use Rattle.format.specs.Segments.{allocatedSize}
 use borrow.Author.Needs.{needs}
+use Rattle.format.specs.Segments.{allocatedSize}
 use Rattle.segments.proofs.allocated_at.Statement.{statement}
 use Rattle.segments.proofs.allocated_at.Tie as tie
 

@@ -1,7 +1,7 @@
-use Rattle.format.proofs.Flags.{flags}
-use Rattle.segments.proofs.Leaves.{whole-yes, whole-no}
-use Rattle.format.specs.Segments.{allocatedBad}
 use borrow.Author.Needs.{needs}
+use Rattle.format.proofs.Flags.{flags}
+use Rattle.format.specs.Segments.{allocatedBad}
+use Rattle.segments.proofs.Leaves.{whole-yes, whole-no}
 use Rattle.segments.proofs.allocated_bad.Statement.{statement}
 use Rattle.segments.proofs.allocated_bad.Tie as tie
 

@@ -1,11 +1,11 @@
 use Prim.Native.Nat.{_+_, _<_, _≤_}
 use denote.Ref.{now}
 use lib.ListN.{length}
-use Rattle.format.specs.Segments.{endBad, nextSegment}
 use mathlib.Core.Path.{sym}
 use native.Mathlib.Omega.{arith}
 use borrow.Author.Tests.{lt-ltb, le-ltb}
 use borrow.Author.Needs.{needs}
+use Rattle.format.specs.Segments.{endBad, nextSegment}
 use Rattle.segments.proofs.end_bad.Statement.{statement}
 use Rattle.segments.proofs.end_bad.Tie as tie
 

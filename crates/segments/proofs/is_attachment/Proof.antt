@@ -1,5 +1,5 @@
-use Rattle.format.specs.Names.{nameAttachment}
 use borrow.Author.Needs.{needs}
+use Rattle.format.specs.Names.{nameAttachment}
 use Rattle.segments.proofs.is_attachment.Statement.{statement}
 use Rattle.segments.proofs.is_attachment.Tie as tie
 

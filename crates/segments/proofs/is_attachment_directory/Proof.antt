@@ -1,5 +1,5 @@
-use Rattle.format.specs.Names.{nameAttachmentDirectory}
 use borrow.Author.Needs.{needs}
+use Rattle.format.specs.Names.{nameAttachmentDirectory}
 use Rattle.segments.proofs.is_attachment_directory.Statement.{statement}
 use Rattle.segments.proofs.is_attachment_directory.Tie as tie
 

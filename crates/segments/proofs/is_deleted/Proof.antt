@@ -1,5 +1,5 @@
-use Rattle.format.specs.Names.{nameDeleted}
 use borrow.Author.Needs.{needs}
+use Rattle.format.specs.Names.{nameDeleted}
 use Rattle.segments.proofs.is_deleted.Statement.{statement}
 use Rattle.segments.proofs.is_deleted.Tie as tie
 

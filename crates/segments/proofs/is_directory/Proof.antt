@@ -1,5 +1,5 @@
-use Rattle.format.specs.Names.{nameDirectory}
 use borrow.Author.Needs.{needs}
+use Rattle.format.specs.Names.{nameDirectory}
 use Rattle.segments.proofs.is_directory.Statement.{statement}
 use Rattle.segments.proofs.is_directory.Tie as tie
 

@@ -1,5 +1,5 @@
-use Rattle.format.specs.Names.{nameFile}
 use borrow.Author.Needs.{needs}
+use Rattle.format.specs.Names.{nameFile}
 use Rattle.segments.proofs.is_file.Statement.{statement}
 use Rattle.segments.proofs.is_file.Tie as tie
 

@@ -1,5 +1,5 @@
-use Rattle.format.specs.Names.{nameMetadata}
 use borrow.Author.Needs.{needs}
+use Rattle.format.specs.Names.{nameMetadata}
 use Rattle.segments.proofs.is_metadata.Statement.{statement}
 use Rattle.segments.proofs.is_metadata.Tie as tie
 

@@ -1,5 +1,5 @@
-use Rattle.format.specs.Names.{nameSubBlock}
 use borrow.Author.Needs.{needs}
+use Rattle.format.specs.Names.{nameSubBlock}
 use Rattle.segments.proofs.is_sub_block.Statement.{statement}
 use Rattle.segments.proofs.is_sub_block.Tie as tie
 

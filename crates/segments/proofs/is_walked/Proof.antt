@@ -1,7 +1,6 @@
 use Prim.Native.Nat.{_+_, _-_, _/_, _≤_, _<_}
 use native.Mathlib.Omega.{arith}
-use borrow.Author.Needs.{needs}
-use mathlib.Core.Path.{sym, _∙_}
+use mathlib.Core.Path.{sym}
 use lib.ListN.{take}
 use lib.Seq.{getD-take, length-take-le}
 use denote.Ref.{now}

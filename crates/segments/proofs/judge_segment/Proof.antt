@@ -1,6 +1,6 @@
+use borrow.Author.Needs.{needs}
 use Rattle.format.proofs.Flags.{flags}
 use Rattle.format.specs.Segments.{segmentRows}
-use borrow.Author.Needs.{needs}
 use Rattle.segments.proofs.judge_segment.Statement.{statement}
 use Rattle.segments.proofs.judge_segment.Tie as tie
 

@@ -1,6 +1,6 @@
+use borrow.Author.Needs.{needs}
 use Rattle.format.specs.Segments.{nameBad}
 use Rattle.segments.proofs.Leaves.{listed}
-use borrow.Author.Needs.{needs}
 use Rattle.segments.proofs.name_bad.Statement.{statement}
 use Rattle.segments.proofs.name_bad.Tie as tie
 

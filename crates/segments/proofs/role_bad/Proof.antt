@@ -1,6 +1,6 @@
+use borrow.Author.Needs.{needs}
 use Rattle.format.proofs.Flags.{flags}
 use Rattle.format.specs.Segments.{roleBad}
-use borrow.Author.Needs.{needs}
 use Rattle.segments.proofs.role_bad.Statement.{statement}
 use Rattle.segments.proofs.role_bad.Tie as tie
 

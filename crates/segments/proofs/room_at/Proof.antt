@@ -1,6 +1,6 @@
+use borrow.Author.Needs.{needs}
 use Rattle.format.proofs.Flags.{flags}
 use Rattle.format.specs.Segments.{room}
-use borrow.Author.Needs.{needs}
 use Rattle.segments.proofs.room_at.Statement.{statement}
 use Rattle.segments.proofs.room_at.Tie as tie
 

@@ -1,6 +1,6 @@
+use borrow.Author.Needs.{needs}
 use Rattle.format.proofs.Flags.{flags}
 use Rattle.format.specs.Segments.{sizesBad}
-use borrow.Author.Needs.{needs}
 use Rattle.segments.proofs.sizes_bad.Statement.{statement}
 use Rattle.segments.proofs.sizes_bad.Tie as tie
 

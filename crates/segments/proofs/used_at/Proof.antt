@@ -1,5 +1,5 @@
-use Rattle.format.specs.Segments.{usedSize}
 use borrow.Author.Needs.{needs}
+use Rattle.format.specs.Segments.{usedSize}
 use Rattle.segments.proofs.used_at.Statement.{statement}
 use Rattle.segments.proofs.used_at.Tie as tie
 

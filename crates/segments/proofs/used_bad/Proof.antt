@@ -1,7 +1,7 @@
-use Rattle.format.proofs.Flags.{flags}
-use Rattle.segments.proofs.Leaves.{lt-both, le-both}
-use Rattle.format.specs.Segments.{usedBad}
 use borrow.Author.Needs.{needs}
+use Rattle.format.proofs.Flags.{flags}
+use Rattle.format.specs.Segments.{usedBad}
+use Rattle.segments.proofs.Leaves.{lt-both, le-both}
 use Rattle.segments.proofs.used_bad.Statement.{statement}
 use Rattle.segments.proofs.used_bad.Tie as tie
 

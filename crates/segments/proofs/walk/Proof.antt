@@ -1,7 +1,7 @@
 use mathlib.Core.Path.{refl, sym, _∙_}
+use borrow.Author.Needs.{needs}
 use Rattle.format.specs.Segments.{segmentsRows, walked}
 use Rattle.format.proofs.SegmentLaws.{length-ok}
-use borrow.Author.Needs.{needs}
 use Rattle.segments.proofs.walk.Statement.{statement}
 use Rattle.segments.proofs.walk.Tie as tie
 

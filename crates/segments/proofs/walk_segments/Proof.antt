@@ -4,10 +4,10 @@ use denote.Ref.{now}
 use mathlib.Core.Path.{_≡_, refl, sym, _∙_}
 use native.Mathlib.Omega.{arith}
 use lib.ListN.{length}
-use Rattle.segments.proofs.walk_segments.Statement.{statement}
-use Rattle.segments.proofs.walk_segments.Tie as tie
 use Rattle.format.proofs.SegmentLaws.{walk-end, walked-end, next-is}
 use Rattle.segments.proofs.Walking.{Walking, walking-start, walking-next, answered-refused, answered-accepted, less, walk-full, walked-full, walk-stop, walked-stop, accepted-sized}
+use Rattle.segments.proofs.walk_segments.Statement.{statement}
+use Rattle.segments.proofs.walk_segments.Tie as tie
 
 abbrev Inv-loop : tie.InvT-loop
 Inv-loop s table₀ len p₀ k₀ table p k = (len ≡ length s) × Walking s table₀ 8192 table p k

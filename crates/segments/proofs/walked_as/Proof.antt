@@ -15,7 +15,11 @@ found : {b : Bool} (c : tie.After-is-walked) → c .is-walked .result ≡ b → 
 found c e = rw (← c .before .before .before .pre .0 .holds) (sym (c .is-walked .ensures) ∙ e)
 
 same-at-requires : tie.Need-same-at-requires
-same-at-requires c κs = let s = walked-sized _ _ (found (c .before) (c .if1 .taken)) in let n = next-is (now (c .before .before .before .before .args .s)) (c .before .before .before .before .args .q) in omega (arith, s .within)
+same-at-requires c κs =
+    let a = c .before .before .before .before .args in
+    let s = walked-sized _ _ (found (c .before) (c .if1 .taken)) in
+    let n = next-is (now (a .s)) (a .q) in
+    omega (arith, s .within)
 
 returns : tie.Need-returns
 unfolding walkedAs

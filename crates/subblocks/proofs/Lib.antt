@@ -1,0 +1,2 @@
+-- Laws of entries and sub-blocks that are judged.
+pub mod PartLaws

@@ -1,0 +1,210 @@
+// Judges a sub-block against its directory entry and reads the tile record. The entry lies in the slice d, the sub-block in the slice s.
+use format::Span;
+use format::Tile;
+use format::TileMask;
+use format::Verdict;
+ghost use mathlib.Core.Path.{_≡_};
+ghost use Prim.Native.Nat.{_+_, _*_, _<_, _≤_};
+ghost use lib.ListN.{length};
+ghost use lib.Dec.{eqb};
+ghost use Rattle.format.specs.Checks.{first};
+ghost use Rattle.format.specs.Segments.{room};
+ghost use Rattle.format.specs.Entry.{dimensionCount, nextEntry};
+ghost use Rattle.format.specs.SubBlock.{metadataSize, attachmentSize, dataSize, fixedPart, copyBad, subBlockBad, pixelsSize, contentsBad, metadataPlace, pixelsPlace, attachmentPlace};
+ghost use Rattle.format.specs.Directory.{attachmentRows};
+ghost use Rattle.format.specs.Records.{metadataSpan, pixelsSpan, attachmentSpan, maskOf, tileAt};
+ghost use Rattle.subblocks.specs.Judged.{Listed, Placed, Agreed, Filled, Judged};
+
+// F, of a number of dimensions.
+fn fixed_part(n: u64) -> u64
+    requires { ⌜ n ≤ 16 ⌝ }
+    ensures { λ r. ⌜ r ≡ fixedPart n ⌝ }
+{
+    let f = 48 + 20 * n;
+    if f < 256 {
+        return 256;
+    }
+    f
+}
+
+// Whether the copy differs from the entry in a byte other than 23 to 27.
+fn copy_bad(d: &[u8], e: u64, s: &[u8], q: u64) -> bool
+    requires { ⌜ (dimensionCount (now d) e ≤ 16) × (nextEntry (now d) e ≤ length (now d)) × (q + 32 + fixedPart (dimensionCount (now d) e) ≤ length (now s)) ⌝ }
+    ensures { λ r. ⌜ r ≡ copyBad (now (d .entry)) e (now (s .entry)) q ⌝ }
+{
+    if !fields::same_range(23, d, e, s, q + 48) {
+        return true;
+    }
+    let n = entries::dimension_count(d, e);
+    if !fields::same_range(4 + 20 * n, d, e + 28, s, q + 76) {
+        return true;
+    }
+    false
+}
+
+// Refusal 15.
+pub fn sub_block_bad(d: &[u8], e: u64, s: &[u8], q: u64) -> bool
+    requires { ⌜ Placed (now d) e (now s) q ⌝ }
+    ensures { λ r. ⌜ r ≡ subBlockBad (now (d .entry)) e (now (s .entry)) q ⌝ }
+{
+    if segments::room_at(s, q) < fixed_part(entries::dimension_count(d, e)) {
+        return true;
+    }
+    if copy_bad(d, e, s, q) {
+        return true;
+    }
+    false
+}
+
+// Whether DataSize is stored X times stored Y times bytes a pixel.
+fn is_pixels_size(d: &[u8], e: u64, size: u64) -> bool
+    requires { ⌜ Listed (now d) e ⌝ }
+    ensures { λ r. ⌜ r ≡ eqb size (pixelsSize (now (d .entry)) e) ⌝ }
+{
+    let x = entries::stored_at(d, entries::letter_place(d, e, 88));
+    let y = entries::stored_at(d, entries::letter_place(d, e, 89));
+    let bytes = entries::pixel_bytes(fields::u32_at(d, e + 2));
+    fields::is_product(size, x, y, bytes)
+}
+
+// Refusal 16.
+pub fn contents_bad(d: &[u8], e: u64, s: &[u8], q: u64) -> bool
+    requires { ⌜ Agreed (now d) e (now s) q ⌝ }
+    ensures { λ r. ⌜ r ≡ contentsBad (now (d .entry)) e (now (s .entry)) q ⌝ }
+{
+    let metadata = fields::u32_at(s, q + 32);
+    if 2147483648 <= metadata {
+        return true;
+    }
+    let attachment = fields::u32_at(s, q + 36);
+    if 2147483648 <= attachment {
+        return true;
+    }
+    let data = fields::u64_at(s, q + 40);
+    if 9223372036854775808 <= data {
+        return true;
+    }
+    let fixed = fixed_part(entries::dimension_count(d, e));
+    if segments::room_at(s, q) < fixed + metadata + data + attachment {
+        return true;
+    }
+    if !is_pixels_size(d, e, data) {
+        return true;
+    }
+    false
+}
+
+// Where the metadata begins.
+fn metadata_place(d: &[u8], e: u64, s: &[u8], q: u64) -> u64
+    requires { ⌜ Agreed (now d) e (now s) q ⌝ }
+    ensures { λ r. ⌜ r ≡ metadataPlace (now (d .entry)) e q ⌝ }
+{
+    q + 32 + fixed_part(entries::dimension_count(d, e))
+}
+
+// Where the pixels begin.
+fn pixels_place(d: &[u8], e: u64, s: &[u8], q: u64) -> u64
+    requires { ⌜ Filled (now d) e (now s) q ⌝ }
+    ensures { λ r. ⌜ r ≡ pixelsPlace (now (d .entry)) e (now (s .entry)) q ⌝ }
+{
+    metadata_place(d, e, s, q) + fields::u32_at(s, q + 32)
+}
+
+// Where the attachment begins.
+fn attachment_place(d: &[u8], e: u64, s: &[u8], q: u64) -> u64
+    requires { ⌜ Filled (now d) e (now s) q ⌝ }
+    ensures { λ r. ⌜ r ≡ attachmentPlace (now (d .entry)) e (now (s .entry)) q ⌝ }
+{
+    pixels_place(d, e, s, q) + fields::u64_at(s, q + 40)
+}
+
+// The stretch of the metadata.
+pub fn metadata_span(d: &[u8], e: u64, s: &[u8], q: u64) -> Span
+    requires { ⌜ Filled (now d) e (now s) q ⌝ }
+    ensures { λ r. ⌜ r ≡ metadataSpan (now (d .entry)) e (now (s .entry)) q ⌝ }
+{
+    let start = metadata_place(d, e, s, q);
+    let length = fields::u32_at(s, q + 32);
+    Span { start, length }
+}
+
+// The stretch of the pixels.
+pub fn pixels_span(d: &[u8], e: u64, s: &[u8], q: u64) -> Span
+    requires { ⌜ Filled (now d) e (now s) q ⌝ }
+    ensures { λ r. ⌜ r ≡ pixelsSpan (now (d .entry)) e (now (s .entry)) q ⌝ }
+{
+    let start = pixels_place(d, e, s, q);
+    let length = fields::u64_at(s, q + 40);
+    Span { start, length }
+}
+
+// The stretch of the attachment.
+pub fn attachment_span(d: &[u8], e: u64, s: &[u8], q: u64) -> Span
+    requires { ⌜ Filled (now d) e (now s) q ⌝ }
+    ensures { λ r. ⌜ r ≡ attachmentSpan (now (d .entry)) e (now (s .entry)) q ⌝ }
+{
+    let start = attachment_place(d, e, s, q);
+    let length = fields::u32_at(s, q + 36);
+    Span { start, length }
+}
+
+// Refusals 17 and 18 of the attachment, whose metadata is searched only where there is one.
+pub fn judge_attachment(d: &[u8], e: u64, s: &[u8], q: u64) -> Verdict
+    requires { ⌜ Filled (now d) e (now s) q ⌝ }
+    ensures { λ r. ⌜ r ≡ first (attachmentRows (now (d .entry)) e (now (s .entry)) q) ⌝ }
+{
+    let n = fields::u32_at(s, q + 36);
+    if n == 0 {
+        return Verdict::Accepted;
+    }
+    if !masks::is_container(s, metadata_place(d, e, s, q), fields::u32_at(s, q + 32)) {
+        return Verdict::Accepted;
+    }
+    let a = attachment_place(d, e, s, q);
+    masks::judge_chunks(s, a, a + n)
+}
+
+// The tile's mask.
+pub fn mask_of(d: &[u8], e: u64, s: &[u8], q: u64) -> TileMask
+    requires { ⌜ Judged (now d) e (now s) q ⌝ }
+    ensures { λ r. ⌜ r ≡ maskOf (now (d .entry)) e (now (s .entry)) q ⌝ }
+{
+    let n = fields::u32_at(s, q + 36);
+    if n == 0 {
+        return TileMask::Unmasked;
+    }
+    if !masks::is_container(s, metadata_place(d, e, s, q), fields::u32_at(s, q + 32)) {
+        return TileMask::Unmasked;
+    }
+    let a = attachment_place(d, e, s, q);
+    masks::mask_in(s, a, a + n)
+}
+
+// The tile record of entry n.
+pub fn tile_at(n: u64, d: &[u8], e: u64, s: &[u8], q: u64) -> Tile
+    requires { ⌜ Judged (now d) e (now s) q ⌝ }
+    ensures { λ r. ⌜ r ≡ tileAt n (now (d .entry)) e (now (s .entry)) q ⌝ }
+{
+    let x = entries::extent_at(d, entries::letter_place(d, e, 88));
+    let y = entries::extent_at(d, entries::letter_place(d, e, 89));
+    let m = entries::layer_of(d, e);
+    let metadata = metadata_span(d, e, s, q);
+    let pixels = pixels_span(d, e, s, q);
+    let attachment = attachment_span(d, e, s, q);
+    let mask = mask_of(d, e, s, q);
+    Tile {
+        entry: n,
+        place: e,
+        pixel_type: fields::u32_at(d, e + 2),
+        position: q,
+        pyramid: fields::byte_at(d, e + 22),
+        dimensions: entries::dimension_count(d, e),
+        x,
+        y,
+        m,
+        metadata,
+        pixels,
+        attachment,
+        mask,
+    }
+}
