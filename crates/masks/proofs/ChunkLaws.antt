@@ -2,7 +2,7 @@
 -- What is left at c has the fuel end - c: each chunk goes on by at least 20, so more fuel changes nothing.
 use Prim.Native.Nat.{ℕ, zero, suc, _+_, _-_, _≤_, _<_}
 use mathlib.Core.Path.{_≡_, refl, sym, ap, _∙_}
-use mathlib.Core.List.{List, [], _∷_, _++_}
+use mathlib.Core.List.{List, [], _++_}
 use mathlib.Core.Bool.{Bool, true, false, cond, _||_, or-true, or-false}
 use native.Mathlib.Omega.{arith}
 use lib.Dec.{ltb}
@@ -11,13 +11,12 @@ use Rattle.format.specs.Checks.{Check, first}
 use Rattle.format.specs.Masks.{chunkSize, nextChunk, isMask, maskBad, maskShape, chunkRows, chunksRows, chunkAt, maskFrom}
 use Rattle.format.specs.declared.Verdict.the-variants.{Accepted, Refused}
 use Rattle.format.specs.declared.MaskShape.{MaskShape}
-use Rattle.format.specs.declared.Content.{Content}
 use Rattle.format.specs.declared.Content.the-variants.{Mask, Other}
 use Rattle.format.specs.declared.Chunk.{Chunk}
 use Rattle.format.specs.declared.TileMask.{TileMask}
 use Rattle.format.specs.declared.TileMask.the-variants.{Unmasked, Masked}
 use Rattle.format.proofs.Firsts.{first-both, first-pass, first-stop}
-use Rattle.masks.proofs.MaskLaws.{ChunkFits, Passed, chunk-passed}
+use Rattle.masks.proofs.MaskLaws.{Passed, chunk-passed}
 
 pub next-after : (bs : List ℕ) (c : ℕ) → c + 20 ≤ nextChunk bs c
 unfolding nextChunk
@@ -64,22 +63,22 @@ module _ (bs : List ℕ) (end : ℕ) (seen : Bool) (c : ℕ) where
 
 -- ---- the mask among the chunks
 
-mask-none : (n : ℕ) (bs : List ℕ) (end c : ℕ) → end ≤ c → maskFrom n bs end c ≡ Unmasked
+pub mask-empty : (n : ℕ) (bs : List ℕ) (end c : ℕ) → end ≤ c → maskFrom n bs end c ≡ Unmasked
 unfolding maskFrom
-mask-none zero bs end c h = refl
-mask-none (suc n) bs end c h = rw (le-ltb c end h)
+mask-empty zero bs end c h = refl
+mask-empty (suc n) bs end c h = rw (le-ltb c end h)
 
 pub mask-fuel : (n m : ℕ) (bs : List ℕ) (end c : ℕ) → end ≤ c + n → end ≤ c + m → maskFrom n bs end c ≡ maskFrom m bs end c
 unfolding maskFrom
-mask-fuel zero m bs end c h k = sym (mask-none m bs end c (omega arith))
-mask-fuel (suc n) zero bs end c h k = mask-none (suc n) bs end c (omega arith)
+mask-fuel zero m bs end c h k = sym (mask-empty m bs end c (omega arith))
+mask-fuel (suc n) zero bs end c h k = mask-empty (suc n) bs end c (omega arith)
 mask-fuel (suc n) (suc m) bs end c h k =
     ap (λ (t : TileMask). cond (ltb c end) (cond (isMask bs c) (Masked c (maskShape bs c)) t) Unmasked)
     (mask-fuel n m bs end (nextChunk bs c) (omega (arith, next-after bs c)) (omega (arith, next-after bs c)))
 
 module _ (bs : List ℕ) (end c : ℕ) where
   pub mask-done : end ≤ c → maskFrom (end - c) bs end c ≡ Unmasked
-  mask-done h = mask-none (end - c) bs end c h
+  mask-done h = mask-empty (end - c) bs end c h
 
   pub mask-here : c < end → isMask bs c ≡ true → maskFrom (end - c) bs end c ≡ Masked c (maskShape bs c)
   unfolding maskFrom

@@ -1,12 +1,12 @@
 -- What a chunk and a mask that are not refused have, and where a mask's bits lie. Assumes nothing.
 use Prim.Native.Nat.{ℕ, zero, suc, _+_, _*_, _/_, _^_, _≤_, _<_}
-use mathlib.Core.Path.{_≡_, refl, sym, _∙_}
+use mathlib.Core.Path.{_≡_, sym}
 use mathlib.Core.List.{List, [], _∷_}
-use mathlib.Core.Bool.{Bool, true, false, cond, true≢false}
+use mathlib.Core.Bool.{Bool, true, false, true≢false}
 use native.Mathlib.Omega.{arith}
 use native.Mathlib.Nat.{mul-le-mul-right}
 use lib.ListN.{getD}
-use borrow.Author.Tests.{ltb-false, leb-false, eqb-true, not-false}
+use borrow.Author.Tests.{ltb-false, leb-false}
 use Rattle.format.specs.Bytes.{anyOf}
 use Rattle.format.specs.Checks.{first}
 use Rattle.format.specs.Masks.{chunkSize, nextChunk, chunkBad, isMask, maskWidth, maskHeight, maskStride, maskBad, maskRefused, maskByte, chunkRows}

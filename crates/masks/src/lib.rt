@@ -82,7 +82,7 @@ fn mask_stride(s: &[u8], c: u64) -> u64
     fields::u32_at(s, c + 32)
 }
 
-// Whether a chunk is a mask: its GUID, in stored order.
+// Whether a chunk is a mask: the mask GUID stands in its header, in stored order.
 fn is_mask(s: &[u8], c: u64) -> bool
     requires { ⌜ c + 16 ≤ length (now s) ⌝ }
     ensures { λ r. ⌜ r ≡ isMask (now (s .entry)) c ⌝ }
@@ -112,7 +112,7 @@ fn chunk_bad(s: &[u8], end: u64, c: u64) -> bool
     false
 }
 
-// Refusal 18 of a mask by itself: the four fields don't fit, one is negative, the representation isn't 0, the columns don't fit a line,
+// Refusal 18 for a mask by itself: the four fields don't fit, one is negative, the representation isn't 0, the columns don't fit a line,
 // the lines don't fit the payload.
 fn mask_bad(s: &[u8], c: u64) -> bool
     requires { ⌜ c + 20 + chunkSize (now s) c ≤ length (now s) ⌝ }
@@ -160,7 +160,7 @@ fn mask_refused(s: &[u8], seen: bool, c: u64) -> bool
     false
 }
 
-// The refusals 17 and 18 of the chunk at c; seen: there was a mask before.
+// The refusals 17 and 18 for the chunk at c; seen: there was a mask before.
 pub fn judge_chunk(s: &[u8], end: u64, seen: bool, c: u64) -> Verdict
     requires { ⌜ (c < end) × (end ≤ length (now s)) ⌝ }
     ensures { λ r. ⌜ r ≡ first (chunkRows (now (s .entry)) end seen c) ⌝ }
@@ -180,6 +180,21 @@ pub fn judge_chunk(s: &[u8], end: u64, seen: bool, c: u64) -> Verdict
     Verdict::Accepted
 }
 
+// A mask's dimensions.
+fn mask_shape(s: &[u8], c: u64) -> MaskShape
+    requires { ⌜ c + 36 ≤ length (now s) ⌝ }
+    ensures { λ r. ⌜ r ≡ maskShape (now (s .entry)) c ⌝ }
+{
+    let width = mask_width(s, c);
+    let height = mask_height(s, c);
+    let stride = mask_stride(s, c);
+    MaskShape {
+        width,
+        height,
+        stride,
+    }
+}
+
 // The chunk at c. Of a mask the four fields have to lie in the slice.
 pub fn chunk_at(s: &[u8], c: u64) -> Chunk
     requires { ⌜ c + 20 ≤ length (now s) ⌝ }
@@ -188,17 +203,11 @@ pub fn chunk_at(s: &[u8], c: u64) -> Chunk
 {
     let size = chunk_size(s, c);
     if is_mask(s, c) {
-        let width = mask_width(s, c);
-        let height = mask_height(s, c);
-        let stride = mask_stride(s, c);
+        let shape = mask_shape(s, c);
         return Chunk {
             place: c,
             length: size,
-            content: Content::Mask(MaskShape {
-                width,
-                height,
-                stride,
-            }),
+            content: Content::Mask(shape),
         };
     }
     Chunk {
@@ -208,7 +217,7 @@ pub fn chunk_at(s: &[u8], c: u64) -> Chunk
     }
 }
 
-// The refusals 17 and 18 of the chunks that fill the attachment from a to end.
+// The refusals 17 and 18 for the chunks that fill the attachment from a to end.
 pub fn judge_chunks(s: &[u8], a: u64, end: u64) -> Verdict
     requires { ⌜ (a ≤ end) × (end ≤ length (now s)) ⌝ }
     ensures { λ r. ⌜ r ≡ first (chunksRows (end - a) (now (s .entry)) end false a) ⌝ }

@@ -1,6 +1,10 @@
+use Prim.Native.Nat.{_+_, _<_}
+use native.Mathlib.Omega.{arith}
+use borrow.Author.Tests.{lt-ltb}
+use borrow.Author.Needs.{needs}
 use Rattle.format.proofs.Flags.{flags}
 use Rattle.format.specs.Masks.{chunkBad, nextChunk}
-use borrow.Author.Needs.{needs}
+use Rattle.masks.proofs.MaskLaws.{any-at}
 use Rattle.masks.proofs.chunk_bad.Statement.{statement}
 use Rattle.masks.proofs.chunk_bad.Tie as tie
 
@@ -8,8 +12,11 @@ add-if1 : tie.Need-add-if1
 add-if1 c = search needs
 
 returns : tie.Need-returns
-unfolding chunkBad nextChunk
-returns c = search flags depth 8
+unfolding chunkBad
+returns c =
+    let a = c .before .before .args in
+    let short : a .end < a .c + 20 = omega arith in
+    any-at _ 0 (lt-ltb _ _ short)
 
 chunk-size-requires : tie.Need-chunk-size-requires
 chunk-size-requires c κs = search needs

@@ -1,5 +1,5 @@
-use Rattle.format.specs.Masks.{chunkSize}
 use borrow.Author.Needs.{needs}
+use Rattle.format.specs.Masks.{chunkSize}
 use Rattle.masks.proofs.chunk_size.Statement.{statement}
 use Rattle.masks.proofs.chunk_size.Tie as tie
 

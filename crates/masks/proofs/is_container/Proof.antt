@@ -1,10 +1,10 @@
-use Rattle.format.proofs.Below.{any-zero}
-use native.Mathlib.Omega.{arith}
-use mathlib.Core.Path.{_≡_}
 use Prim.Native.Nat.{_+_, _-_}
+use mathlib.Core.Path.{_≡_}
+use native.Mathlib.Omega.{arith}
+use borrow.Author.Needs.{needs}
+use Rattle.format.proofs.Below.{any-zero}
 use Rattle.format.specs.Masks.{isContainer}
 use Rattle.format.specs.Names.{containerMarker}
-use borrow.Author.Needs.{needs}
 use Rattle.masks.proofs.is_container.Statement.{statement}
 use Rattle.masks.proofs.is_container.Tie as tie
 

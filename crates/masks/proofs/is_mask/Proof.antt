@@ -1,6 +1,6 @@
+use borrow.Author.Needs.{needs}
 use Rattle.format.specs.Masks.{isMask}
 use Rattle.format.specs.Names.{maskGuid}
-use borrow.Author.Needs.{needs}
 use Rattle.masks.proofs.is_mask.Statement.{statement}
 use Rattle.masks.proofs.is_mask.Tie as tie
 

@@ -1,9 +1,9 @@
 use mathlib.Core.Path.{sym, _∙_}
-use Rattle.format.proofs.Flags.{flags}
 use native.Mathlib.Omega.{arith}
+use borrow.Author.Needs.{needs}
+use Rattle.format.proofs.Flags.{flags}
 use Rattle.format.specs.Masks.{chunkRows}
 use Rattle.masks.proofs.MaskLaws.{chunk-fits}
-use borrow.Author.Needs.{needs}
 use Rattle.masks.proofs.judge_chunk.Statement.{statement}
 use Rattle.masks.proofs.judge_chunk.Tie as tie
 

@@ -1,10 +1,10 @@
-use Rattle.masks.proofs.MaskLaws.{any-at}
-use borrow.Author.Tests.{lt-ltb}
-use Rattle.format.proofs.Flags.{flags}
 use native.Mathlib.Omega.{arith}
-use Rattle.fields.proofs.Products.{below}
-use Rattle.format.specs.Masks.{maskBad, representation}
+use borrow.Author.Tests.{lt-ltb}
 use borrow.Author.Needs.{needs}
+use Rattle.format.proofs.Flags.{flags}
+use Rattle.format.specs.Masks.{maskBad, representation}
+use Rattle.fields.proofs.Products.{below}
+use Rattle.masks.proofs.MaskLaws.{any-at}
 use Rattle.masks.proofs.mask_bad.Statement.{statement}
 use Rattle.masks.proofs.mask_bad.Tie as tie
 
@@ -64,11 +64,20 @@ add-if7 c = omega (arith, below 31 (c .before .if5 .left) (c .before .before .be
 
 returns-7 : tie.Need-returns-7
 unfolding maskBad
-returns-7 c = rw (← c .before .before .before .before .before .before .before .before .before .before .before .chunk-size .ensures .0, ← c .before .before .before .before .before .before .before .mask-height .ensures .0, ← c .before .before .before .mask-stride .ensures .0) (any-at _ 6 (lt-ltb _ _ (c .if7 .taken)))
+returns-7 c =
+    let s = c .before .before .before in
+    let h = s .before .before .before .before in
+    let z = h .before .before .before .before in
+    rw (← z .chunk-size .ensures .0, ← h .mask-height .ensures .0, ← s .mask-stride .ensures .0) (any-at _ 6 (lt-ltb _ _ (c .if7 .taken)))
 
 returns-8 : tie.Need-returns-8
 unfolding maskBad representation
-returns-8 c = rw (← c .before .before .before .before .before .before .before .before .before .before .before .chunk-size .ensures .0, ← c .before .before .before .before .before .before .before .before .before .mask-width .ensures .0, ← c .before .before .before .before .before .before .before .mask-height .ensures .0, ← c .before .before .before .mask-stride .ensures .0) (search flags depth 10)
+returns-8 c =
+    let s = c .before .before .before in
+    let h = s .before .before .before .before in
+    let w = h .before .before in
+    let z = w .before .before in
+    rw (← z .chunk-size .ensures .0, ← w .mask-width .ensures .0, ← h .mask-height .ensures .0, ← s .mask-stride .ensures .0) (search flags depth 10)
 
 pub mask-bad-spec : {M : Type 1} → statement M
 mask-bad-spec =

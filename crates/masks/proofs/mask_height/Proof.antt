@@ -1,5 +1,5 @@
-use Rattle.format.specs.Masks.{maskHeight}
 use borrow.Author.Needs.{needs}
+use Rattle.format.specs.Masks.{maskHeight}
 use Rattle.masks.proofs.mask_height.Statement.{statement}
 use Rattle.masks.proofs.mask_height.Tie as tie
 

@@ -1,15 +1,14 @@
-use Rattle.masks.proofs.ChunkLaws.{chunks-here, chunks-skipped, mask-done, mask-found, mask-skipped, read-within}
-use Rattle.masks.proofs.MaskLaws.{chunk-passed, fields-within}
-use Rattle.format.specs.Masks.{chunkRows}
-use denote.Ref.{now}
 use Prim.Native.Nat.{_+_, _-_, _≤_}
+use denote.Ref.{now}
 use mathlib.Core.Path.{_≡_, refl, sym, _∙_}
 use mathlib.Core.Bool.{false}
 use native.Mathlib.Omega.{arith}
 use borrow.Author.Needs.{needs}
+use Rattle.format.specs.Masks.{chunkRows, chunksRows, maskFrom}
 use Rattle.format.specs.Checks.{first}
-use Rattle.format.specs.Masks.{chunksRows, maskFrom}
 use Rattle.format.specs.declared.Verdict.the-variants.{Accepted}
+use Rattle.masks.proofs.ChunkLaws.{chunks-here, chunks-skipped, mask-done, mask-found, mask-skipped, read-within}
+use Rattle.masks.proofs.MaskLaws.{chunk-passed, fields-within}
 use Rattle.masks.proofs.mask_in.Statement.{statement}
 use Rattle.masks.proofs.mask_in.Tie as tie
 

@@ -1,6 +1,6 @@
+use borrow.Author.Needs.{needs}
 use Rattle.format.proofs.Flags.{flags}
 use Rattle.format.specs.Masks.{maskRefused}
-use borrow.Author.Needs.{needs}
 use Rattle.masks.proofs.mask_refused.Statement.{statement}
 use Rattle.masks.proofs.mask_refused.Tie as tie
 

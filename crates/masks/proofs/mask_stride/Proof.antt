@@ -1,5 +1,5 @@
-use Rattle.format.specs.Masks.{maskStride}
 use borrow.Author.Needs.{needs}
+use Rattle.format.specs.Masks.{maskStride}
 use Rattle.masks.proofs.mask_stride.Statement.{statement}
 use Rattle.masks.proofs.mask_stride.Tie as tie
 

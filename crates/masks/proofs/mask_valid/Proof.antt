@@ -1,12 +1,11 @@
-use mathlib.Core.Path.{_≡_, ap, _∙_}
-use lib.ListN.{length, getD}
-use Prim.Native.Nat.{ℕ, _+_, _*_, _/_, _<_}
+use Prim.Native.Nat.{_+_, _*_, _/_, _<_}
 use denote.Ref.{now}
-use Rattle.masks.proofs.MaskLaws.{mask-fits, byte-place, byte-within}
+use native.Mathlib.Omega.{arith}
+use lib.ListN.{length}
+use borrow.Author.Needs.{needs}
 use Rattle.format.specs.Masks.{maskValid}
 use Rattle.format.proofs.Flags.{flags}
-use native.Mathlib.Omega.{arith}
-use borrow.Author.Needs.{needs}
+use Rattle.masks.proofs.MaskLaws.{mask-fits, byte-place, byte-within}
 use Rattle.masks.proofs.mask_valid.Statement.{statement}
 use Rattle.masks.proofs.mask_valid.Tie as tie
 

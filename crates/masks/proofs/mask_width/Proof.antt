@@ -1,5 +1,5 @@
-use Rattle.format.specs.Masks.{maskWidth}
 use borrow.Author.Needs.{needs}
+use Rattle.format.specs.Masks.{maskWidth}
 use Rattle.masks.proofs.mask_width.Statement.{statement}
 use Rattle.masks.proofs.mask_width.Tie as tie
 

@@ -1,0 +1,48 @@
+-- What the tests of the metadata segment, the attachment directory and an attachment tell, and rows that are only there where a position is not 0.
+-- Assumes nothing.
+use Prim.Native.Nat.{ℕ, _+_, _*_, _≤_, _<_}
+use mathlib.Core.Path.{_≡_, _∙_}
+use mathlib.Core.List.{List, []}
+use mathlib.Core.Bool.{Bool, true, false, cond}
+use native.Mathlib.Omega.{arith}
+use lib.ListN.{length}
+use borrow.Author.Tests.{lt-ltb, ltb-false}
+use Rattle.format.specs.Checks.{Check, first}
+use Rattle.format.specs.Segments.{room, RoomIn}
+use Rattle.format.specs.Attachments.{metadataBad, xmlSize, xmlAttachmentSize, attachmentDirectoryBad, attachmentEntryCount, attachmentBad}
+use Rattle.format.specs.declared.Verdict.{Verdict}
+use Rattle.format.specs.declared.Verdict.the-variants.{Accepted}
+use Rattle.format.proofs.Below.{none}
+use Rattle.format.proofs.Flags.{any-here, any-later}
+
+-- ---- rows behind a test that says that there is nothing to judge
+
+module _ (t : Bool) (rows : List Check) where
+  pub absent : t ≡ true → Accepted ≡ first (cond t [] rows)
+  absent e = rw e
+
+  pub present : (v : Verdict) → t ≡ false → v ≡ first rows → v ≡ first (cond t [] rows)
+  present v e h = rw e h
+
+-- ---- a position that is not 0 is that of a segment in the file
+
+pub named-room : (bs : List ℕ) (r p : ℕ) → r ≡ p → ((p ≡ 0 → ⊥) → RoomIn bs p) → (r ≡ 0 → ⊥) → RoomIn bs r
+named-room bs r p e h n = rw e (h (λ z. n (e ∙ z)))
+
+-- ---- refusal 10
+
+-- a room under the fixed part is under the fixed part with both sizes
+pub metadata-short : (bs : List ℕ) (m : ℕ) → room bs m < 256 → true ≡ metadataBad bs m
+unfolding metadataBad
+metadata-short bs m h = any-later _ _ (any-later _ _ (any-here _ _ (lt-ltb (room bs m) (256 + xmlSize bs m + xmlAttachmentSize bs m) (omega arith))))
+
+-- not given to a directory whose room lies in the file: its entries lie there
+pub entries-within : (bs : List ℕ) (t : ℕ) → RoomIn bs t → attachmentDirectoryBad bs t ≡ false → t + 288 + 128 * attachmentEntryCount bs t ≤ length bs
+unfolding attachmentDirectoryBad
+entries-within bs t h e = let f : 256 + 128 * attachmentEntryCount bs t ≤ room bs t = ltb-false _ _ (none _ e 3) in omega arith
+
+-- ---- refusal 15 is not given: the fixed part lies in the room
+
+pub attachment-fits : (ds : List ℕ) (e : ℕ) (bs : List ℕ) (q : ℕ) → attachmentBad ds e bs q ≡ false → 256 ≤ room bs q
+unfolding attachmentBad
+attachment-fits ds e bs q h = ltb-false _ _ (none _ h 0)

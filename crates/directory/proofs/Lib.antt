@@ -1,0 +1,2 @@
+-- Laws of judging one thing after another.
+pub mod Stages

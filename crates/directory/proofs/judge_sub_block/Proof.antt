@@ -1,0 +1,30 @@
+use Rattle.format.proofs.Flags.{flags}
+use mathlib.Core.Path.{_≡_, refl, sym, ap, _∙_}
+use Rattle.directory.proofs.Stages.{then-stop, then-next, headed, placed, filled, entry-next}
+use Rattle.format.specs.Directory.{subBlockRows}
+use Rattle.subblocks.specs.Judged.{Agreed}
+use borrow.Author.Needs.{needs}
+use Rattle.directory.proofs.judge_sub_block.Statement.{statement}
+use Rattle.directory.proofs.judge_sub_block.Tie as tie
+
+sub-block-bad-requires : tie.Need-sub-block-bad-requires
+sub-block-bad-requires c κs = search needs
+
+returns : tie.Need-returns
+unfolding subBlockRows
+returns c = search flags depth 8
+
+contents-bad-requires : tie.Need-contents-bad-requires
+contents-bad-requires c κs = record { placed = c .before .before .before .pre; block = sym (c .before .sub-block-bad .ensures) ∙ c .if1 .left }
+
+returns-2 : tie.Need-returns-2
+unfolding subBlockRows
+returns-2 c = search flags depth 8
+
+returns-3 : tie.Need-returns-3
+unfolding subBlockRows
+returns-3 c = search flags depth 8
+
+pub judge-sub-block-spec : {M : Type 1} → statement M
+judge-sub-block-spec =
+    tie.close (tie.spec sub-block-bad-requires returns contents-bad-requires returns-2 returns-3)

@@ -1,0 +1,2 @@
+-- Laws of a file whose file segment is accepted.
+pub mod LocatedLaws

@@ -1,0 +1,45 @@
+use Prim.Native.Nat.{ℕ}
+use mathlib.Core.Path.{_≡_, refl, sym, ap, _∙_}
+use denote.Ref.{now}
+use Rattle.directory.proofs.Stages.{then-stop, then-next}
+use lib.ListN.{length-replicate}
+use mathlib.Core.List.{_++_}
+use Rattle.format.specs.Segments.{segmentsRows}
+use Rattle.format.specs.File.{fileRows}
+use Rattle.format.specs.Directory.{directoryRows}
+use Rattle.format.specs.Attachments.{metadataRows, attachmentsRows}
+use Rattle.format.specs.Rules.{checks, verdict}
+use Rattle.format.proofs.Walk.{file-long}
+use Rattle.segments.proofs.Walking.{filled}
+use borrow.Author.Needs.{needs}
+use Rattle.judge.proofs.judge.Statement.{statement}
+use Rattle.judge.proofs.judge.Tie as tie
+
+walk-requires : tie.Need-walk-requires
+walk-requires c κs = search needs
+
+enum-known-v : tie.Need-enum-known-v
+enum-known-v c = search needs
+
+enum-told : tie.Need-enum-told
+enum-told c = search needs
+
+judge-walked-requires : tie.Need-judge-walked-requires
+judge-walked-requires c κs = (filled _ _ _ _ (length-replicate {A = ℕ} 8192 0) (c .before .before .before .walk .ensures) (c .before .enum-told .given .1), file-long _ (sym (c .before .before .before .walk .ensures .verdict-is) ∙ c .before .enum-told .given .1))
+
+returns : tie.Need-returns
+unfolding verdict checks
+returns c =
+    let bs = now (c .before .before .before .before .before .before .args .s) in
+    then-stop _ (segmentsRows bs) (fileRows bs ++ (directoryRows bs ++ (metadataRows bs ++ attachmentsRows bs))) _ _ (c .before .before .before .walk .ensures .verdict-is) (c .before .v .given .1)
+
+returns-2 : tie.Need-returns-2
+unfolding verdict checks
+returns-2 c =
+    let bs = now (c .before .before .before .before .before .before .before .args .s) in
+    then-next _ _ (segmentsRows bs) (fileRows bs ++ (directoryRows bs ++ (metadataRows bs ++ attachmentsRows bs))) (c .before .before .before .before .walk .ensures .verdict-is) (c .before .before .enum-told .given .1) (c .judge-walked .ensures)
+
+pub judge-spec : {M : Type 1} → statement M
+judge-spec =
+    tie.close
+    (tie.spec walk-requires enum-known-v enum-told judge-walked-requires returns returns-2)

@@ -1,0 +1,43 @@
+use mathlib.Core.Path.{_≡_, refl, sym, ap, _∙_}
+use denote.Ref.{now}
+use Rattle.directory.proofs.Stages.{then-stop, then-next}
+use mathlib.Core.List.{_++_}
+use Rattle.format.specs.File.{fileRows}
+use Rattle.format.specs.Directory.{directoryRows}
+use Rattle.format.specs.Attachments.{metadataRows, attachmentsRows}
+use borrow.Author.Needs.{needs}
+use Rattle.judge.proofs.judge_annexes.Statement.{statement}
+use Rattle.judge.proofs.judge_annexes.Tie as tie
+
+judge-metadata-requires : tie.Need-judge-metadata-requires
+judge-metadata-requires c κs = search needs
+
+enum-known-v : tie.Need-enum-known-v
+enum-known-v c = search needs
+
+enum-told : tie.Need-enum-told
+enum-told c = search needs
+
+judge-attachments-requires : tie.Need-judge-attachments-requires
+judge-attachments-requires c κs = search needs
+
+returns : tie.Need-returns
+returns c =
+    let bs = now (c .before .before .before .before .before .args .s) in
+    then-stop _ (metadataRows bs) (attachmentsRows bs) _ _ (c .before .before .before .judge-metadata .ensures) (c .before .v .given .1)
+
+returns-2 : tie.Need-returns-2
+returns-2 c =
+    let bs = now (c .before .before .before .before .before .args .s) in
+    then-next _ _ (metadataRows bs) (attachmentsRows bs) (c .before .before .before .judge-metadata .ensures) (c .before .enum-told .given .1) (c .judge-attachments .ensures)
+
+pub judge-annexes-spec : {M : Type 1} → statement M
+judge-annexes-spec =
+    tie.close
+    (tie.spec
+    judge-metadata-requires
+    enum-known-v
+    enum-told
+    judge-attachments-requires
+    returns
+    returns-2)

@@ -1,0 +1,38 @@
+use mathlib.Core.Path.{_≡_, refl, sym, ap, _∙_}
+use denote.Ref.{now}
+use Rattle.directory.proofs.Stages.{then-stop, then-next}
+use mathlib.Core.List.{_++_}
+use Rattle.format.specs.File.{fileRows}
+use Rattle.format.specs.Directory.{directoryRows}
+use Rattle.format.specs.Attachments.{metadataRows, attachmentsRows}
+use Rattle.judge.proofs.LocatedLaws.{located}
+use borrow.Author.Needs.{needs}
+use Rattle.judge.proofs.judge_walked.Statement.{statement}
+use Rattle.judge.proofs.judge_walked.Tie as tie
+
+judge-file-requires : tie.Need-judge-file-requires
+judge-file-requires c κs = search needs
+
+enum-known-v : tie.Need-enum-known-v
+enum-known-v c = search needs
+
+enum-told : tie.Need-enum-told
+enum-told c = search needs
+
+judge-named-requires : tie.Need-judge-named-requires
+judge-named-requires c κs = (c .before .before .before .before .pre .0, (c .before .before .before .before .pre .1, located _ (sym (c .before .before .judge-file .ensures) ∙ c .enum-told .given .1)))
+
+returns : tie.Need-returns
+returns c =
+    let bs = now (c .before .before .before .before .before .args .s) in
+    then-stop _ (fileRows bs) (directoryRows bs ++ (metadataRows bs ++ attachmentsRows bs)) _ _ (c .before .before .before .judge-file .ensures) (c .before .v .given .1)
+
+returns-2 : tie.Need-returns-2
+returns-2 c =
+    let bs = now (c .before .before .before .before .before .args .s) in
+    then-next _ _ (fileRows bs) (directoryRows bs ++ (metadataRows bs ++ attachmentsRows bs)) (c .before .before .before .judge-file .ensures) (c .before .enum-told .given .1) (c .judge-named .ensures)
+
+pub judge-walked-spec : {M : Type 1} → statement M
+judge-walked-spec =
+    tie.close
+    (tie.spec judge-file-requires enum-known-v enum-told judge-named-requires returns returns-2)

@@ -1,0 +1,150 @@
+// Judges a whole file: the refusals 1 to 18 in the paper's order.
+use format::Verdict;
+ghost use mathlib.Core.Path.{_≡_};
+ghost use mathlib.Core.List.{_++_};
+ghost use Prim.Native.Nat.{_+_, _≤_};
+ghost use lib.ListN.{length};
+ghost use Rattle.format.specs.Checks.{first};
+ghost use Rattle.format.specs.File.{namesNone, namesNoneBut0, fileRows};
+ghost use Rattle.format.specs.Directory.{directoryRows};
+ghost use Rattle.format.specs.Attachments.{metadataRows, attachmentsRows};
+ghost use Rattle.format.specs.Rules.{verdict};
+ghost use Rattle.segments.specs.Walk.{Filled};
+ghost use Rattle.judge.specs.Located.{Located};
+
+// ---- the file segment
+
+// Whether position q names no walked segment of that name.
+fn names_none(s: &[u8], table: &[u64; 8192], count: usize, q: u64, name: &[u8]) -> bool
+    requires { ⌜ Filled (now s) (now table) count ⌝ }
+    requires { ⌜ length (now name) ≤ 32 ⌝ }
+    ensures { λ r. ⌜ r ≡ namesNone (now (s .entry)) q (now (name .entry)) ⌝ }
+{
+    !segments::walked_as(s, table, count, q, name)
+}
+
+// The same, where 0 means none.
+fn names_none_but_0(s: &[u8], table: &[u64; 8192], count: usize, q: u64, name: &[u8]) -> bool
+    requires { ⌜ Filled (now s) (now table) count ⌝ }
+    requires { ⌜ length (now name) ≤ 32 ⌝ }
+    ensures { λ r. ⌜ r ≡ namesNoneBut0 (now (s .entry)) q (now (name .entry)) ⌝ }
+{
+    if q == 0 {
+        return false;
+    }
+    names_none(s, table, count, q, name)
+}
+
+// Refusals 6, 7, 8, and 9 in field order.
+fn judge_file(s: &[u8], table: &[u64; 8192], count: usize) -> Verdict
+    requires { ⌜ Filled (now s) (now table) count ⌝ }
+    requires { ⌜ 112 ≤ length (now s) ⌝ }
+    ensures { λ r. ⌜ r ≡ first (fileRows (now (s .entry))) ⌝ }
+{
+    if fields::u32_at(s, 32) != 1 {
+        return Verdict::Refused {
+            number: 6,
+            place: 0,
+        };
+    }
+    if fields::u32_at(s, 80) != 0 {
+        return Verdict::Refused {
+            number: 7,
+            place: 0,
+        };
+    }
+    if fields::u32_at(s, 100) != 0 {
+        return Verdict::Refused {
+            number: 8,
+            place: 0,
+        };
+    }
+    if names_none(s, table, count, fields::u64_at(s, 84), b"ZISRAWDIRECTORY\0") {
+        return Verdict::Refused {
+            number: 9,
+            place: 84,
+        };
+    }
+    if names_none_but_0(
+        s,
+        table,
+        count,
+        fields::u64_at(s, 92),
+        b"ZISRAWMETADATA\0\0",
+    ) {
+        return Verdict::Refused {
+            number: 9,
+            place: 92,
+        };
+    }
+    if names_none_but_0(
+        s,
+        table,
+        count,
+        fields::u64_at(s, 104),
+        b"ZISRAWATTDIR\0\0\0\0",
+    ) {
+        return Verdict::Refused {
+            number: 9,
+            place: 104,
+        };
+    }
+    Verdict::Accepted
+}
+
+// ---- the whole file
+
+// The metadata segment and the attachment directory.
+fn judge_annexes(s: &[u8], table: &[u64; 8192], count: usize) -> Verdict
+    requires { ⌜ Filled (now s) (now table) count ⌝ }
+    requires { ⌜ (112 ≤ length (now s)) × Located (now s) ⌝ }
+    ensures { λ r. ⌜ r ≡ first (metadataRows (now (s .entry)) ++ attachmentsRows (now (s .entry))) ⌝ }
+{
+    let v = attachments::judge_metadata(s);
+    match v {
+        Verdict::Refused { number, place } => Verdict::Refused { number, place },
+        Verdict::Accepted => attachments::judge_attachments(s, table, count),
+    }
+}
+
+// What the file segment names.
+fn judge_named(s: &[u8], table: &[u64; 8192], count: usize) -> Verdict
+    requires { ⌜ Filled (now s) (now table) count ⌝ }
+    requires { ⌜ (112 ≤ length (now s)) × Located (now s) ⌝ }
+    ensures { λ r. ⌜ r ≡ first (directoryRows (now (s .entry)) ++ (metadataRows (now (s .entry)) ++ attachmentsRows (now (s .entry)))) ⌝ }
+{
+    let v = directory::judge_directory(s, table, count);
+    match v {
+        Verdict::Refused { number, place } => Verdict::Refused { number, place },
+        Verdict::Accepted => judge_annexes(s, table, count),
+    }
+}
+
+// The file segment and what it names.
+fn judge_walked(s: &[u8], table: &[u64; 8192], count: usize) -> Verdict
+    requires { ⌜ Filled (now s) (now table) count ⌝ }
+    requires { ⌜ 112 ≤ length (now s) ⌝ }
+    ensures { λ r. ⌜ r ≡ first (fileRows (now (s .entry)) ++ (directoryRows (now (s .entry)) ++ (metadataRows (now (s .entry)) ++ attachmentsRows (now (s .entry))))) ⌝ }
+{
+    let v = judge_file(s, table, count);
+    match v {
+        Verdict::Refused { number, place } => Verdict::Refused { number, place },
+        Verdict::Accepted => judge_named(s, table, count),
+    }
+}
+
+// The verdict on any bytes.
+pub fn judge(s: &[u8]) -> Verdict
+    ensures { λ r. ⌜ r ≡ verdict (now (s .entry)) ⌝ }
+{
+    let mut table = [0u64; 8192];
+    let w = segments::walk(s, &mut table);
+    let v = w.verdict;
+    match v {
+        Verdict::Refused { number, place } => Verdict::Refused { number, place },
+        Verdict::Accepted => {
+            let count = w.count as usize;
+            judge_walked(s, &table, count)
+        }
+    }
+}
