@@ -1,0 +1,103 @@
+-- Laws of a byte's bits, counted from the high one.
+use mathlib.Core.Path.{_≡_, refl, sym, ap, _∙_}
+use Prim.Native.Nat.{ℕ, zero, suc, _+_, _*_, _-_, _/_, _%_, _^_, _<_}
+use native.Mathlib.Omega.{arith}
+use mathlib.Core.Bool.{Bool, true, false, _||_}
+use lib.Dec.{eqb}
+use Rattle.plane.specs.Sums.{one}
+use Rattle.plane.specs.Paint.{bitIn, pack}
+use Rattle.plane.proofs.SumLaws.{one-le}
+
+pub eqb-one : (b : Bool) (x : ℕ) → x ≡ one b → eqb x 1 ≡ b
+eqb-one true x e = ap (λ (y : ℕ). eqb y 1) e
+eqb-one false x e = ap (λ (y : ℕ). eqb y 1) e
+
+-- a fact of each number below 8
+each8 : (P : ℕ → Type 0) → P 0 → P 1 → P 2 → P 3 → P 4 → P 5 → P 6 → P 7 → (i : ℕ) → i < 8 → P i
+each8 P a b c d e f g h zero l = a
+each8 P a b c d e f g h (suc zero) l = b
+each8 P a b c d e f g h (suc (suc zero)) l = c
+each8 P a b c d e f g h (suc (suc (suc zero))) l = d
+each8 P a b c d e f g h (suc (suc (suc (suc zero)))) l = e
+each8 P a b c d e f g h (suc (suc (suc (suc (suc zero))))) l = f
+each8 P a b c d e f g h (suc (suc (suc (suc (suc (suc zero)))))) l = g
+each8 P a b c d e f g h (suc (suc (suc (suc (suc (suc (suc zero))))))) l = h
+each8 P a b c d e f g h (suc (suc (suc (suc (suc (suc (suc (suc n)))))))) l = absurd (omega arith)
+
+module _ (f : ℕ → Bool) where
+  pub pack-lt : pack f < 256
+  unfolding pack
+  pack-lt = omega (arith, one-le (f 0), one-le (f 1), one-le (f 2), one-le (f 3), one-le (f 4), one-le (f 5), one-le (f 6), one-le (f 7))
+
+  pub bit-pack : (i : ℕ) → i < 8 → bitIn (pack f) i ≡ f i
+  unfolding bitIn pack
+  bit-pack =
+      each8 (λ (i : ℕ). bitIn (pack f) i ≡ f i)
+      (eqb-one (f 0) (pack f / 2 ^ (7 - 0) % 2) (omega (arith, one-le (f 0), one-le (f 1), one-le (f 2), one-le (f 3), one-le (f 4), one-le (f 5), one-le (f 6), one-le (f 7))))
+      (eqb-one (f 1) (pack f / 2 ^ (7 - 1) % 2) (omega (arith, one-le (f 0), one-le (f 1), one-le (f 2), one-le (f 3), one-le (f 4), one-le (f 5), one-le (f 6), one-le (f 7))))
+      (eqb-one (f 2) (pack f / 2 ^ (7 - 2) % 2) (omega (arith, one-le (f 0), one-le (f 1), one-le (f 2), one-le (f 3), one-le (f 4), one-le (f 5), one-le (f 6), one-le (f 7))))
+      (eqb-one (f 3) (pack f / 2 ^ (7 - 3) % 2) (omega (arith, one-le (f 0), one-le (f 1), one-le (f 2), one-le (f 3), one-le (f 4), one-le (f 5), one-le (f 6), one-le (f 7))))
+      (eqb-one (f 4) (pack f / 2 ^ (7 - 4) % 2) (omega (arith, one-le (f 0), one-le (f 1), one-le (f 2), one-le (f 3), one-le (f 4), one-le (f 5), one-le (f 6), one-le (f 7))))
+      (eqb-one (f 5) (pack f / 2 ^ (7 - 5) % 2) (omega (arith, one-le (f 0), one-le (f 1), one-le (f 2), one-le (f 3), one-le (f 4), one-le (f 5), one-le (f 6), one-le (f 7))))
+      (eqb-one (f 6) (pack f / 2 ^ (7 - 6) % 2) (omega (arith, one-le (f 0), one-le (f 1), one-le (f 2), one-le (f 3), one-le (f 4), one-le (f 5), one-le (f 6), one-le (f 7))))
+      (eqb-one (f 7) (pack f / 2 ^ (7 - 7) % 2) (omega (arith, one-le (f 0), one-le (f 1), one-le (f 2), one-le (f 3), one-le (f 4), one-le (f 5), one-le (f 6), one-le (f 7))))
+
+-- a digit, from its test
+pub digit : (a : ℕ) → one (eqb (a % 2) 1) ≡ a % 2
+digit a = go (a % 2) (omega arith)
+  where
+    go : (r : ℕ) → r < 2 → one (eqb r 1) ≡ r
+    go zero h = refl
+    go (suc zero) h = refl
+    go (suc (suc r)) h = absurd (omega arith)
+
+-- a byte is what its bits pack to: a number below 256 by its halves and what each leaves
+halves : (x y₁ y₂ y₃ y₄ y₅ y₆ y₇ b₀ b₁ b₂ b₃ b₄ b₅ b₆ b₇ : ℕ)
+    → x ≡ y₁ * 2 + b₀ → y₁ ≡ y₂ * 2 + b₁ → y₂ ≡ y₃ * 2 + b₂ → y₃ ≡ y₄ * 2 + b₃ → y₄ ≡ y₅ * 2 + b₄ → y₅ ≡ y₆ * 2 + b₅ → y₆ ≡ y₇ * 2 + b₆ → y₇ ≡ b₇
+    → x ≡ b₇ * 128 + b₆ * 64 + b₅ * 32 + b₄ * 16 + b₃ * 8 + b₂ * 4 + b₁ * 2 + b₀
+halves x y₁ y₂ y₃ y₄ y₅ y₆ y₇ b₀ b₁ b₂ b₃ b₄ b₅ b₆ b₇ e₀ e₁ e₂ e₃ e₄ e₅ e₆ e₇ = omega arith
+
+pub pack-bits : (x : ℕ) → x < 256 → x ≡ pack (bitIn x)
+unfolding bitIn pack
+pack-bits x h =
+    halves x (x / 2) (x / 4) (x / 8) (x / 16) (x / 32) (x / 64) (x / 128) _ _ _ _ _ _ _ _
+    (omega (arith, digit (x / 1)))
+    (omega (arith, digit (x / 2)))
+    (omega (arith, digit (x / 4)))
+    (omega (arith, digit (x / 8)))
+    (omega (arith, digit (x / 16)))
+    (omega (arith, digit (x / 32)))
+    (omega (arith, digit (x / 64)))
+    (omega (arith, digit (x / 128)))
+
+-- two bytes with the same bits
+pub same-bits : (x y : ℕ) → x < 256 → y < 256 → ((i : ℕ) → i < 8 → bitIn x i ≡ bitIn y i) → x ≡ y
+unfolding pack
+same-bits x y hx hy e =
+    pack-bits x hx
+    ∙ (simp (e 0 (omega arith), e 1 (omega arith), e 2 (omega arith), e 3 (omega arith), e 4 (omega arith), e 5 (omega arith), e 6 (omega arith), e 7 (omega arith)))
+    ∙ sym (pack-bits y hy)
+
+-- a zero bit set
+pack-set : (f : ℕ → Bool) (i : ℕ) → i < 8 → f i ≡ false → pack f + 2 ^ (7 - i) ≡ pack (λ j. eqb j i || f j)
+unfolding pack
+pack-set f =
+    each8 (λ (i : ℕ). f i ≡ false → pack f + 2 ^ (7 - i) ≡ pack (λ j. eqb j i || f j))
+    (λ e. omega (arith, ap one e))
+    (λ e. omega (arith, ap one e))
+    (λ e. omega (arith, ap one e))
+    (λ e. omega (arith, ap one e))
+    (λ e. omega (arith, ap one e))
+    (λ e. omega (arith, ap one e))
+    (λ e. omega (arith, ap one e))
+    (λ e. omega (arith, ap one e))
+
+module _ (x : ℕ) (h : x < 256) (i : ℕ) (l : i < 8) (e : bitIn x i ≡ false) where
+  packed : x + 2 ^ (7 - i) ≡ pack (λ j. eqb j i || bitIn x j)
+  packed = ap (λ (y : ℕ). y + 2 ^ (7 - i)) (pack-bits x h) ∙ pack-set (bitIn x) i l e
+
+  pub set-lt : x + 2 ^ (7 - i) < 256
+  set-lt = rw packed (pack-lt _)
+
+  pub set-bits : (j : ℕ) → j < 8 → bitIn (x + 2 ^ (7 - i)) j ≡ (eqb j i || bitIn x j)
+  set-bits j k = ap (λ (y : ℕ). bitIn y j) packed ∙ bit-pack _ j k

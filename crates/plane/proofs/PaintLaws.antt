@@ -1,0 +1,208 @@
+-- Laws of `paint`, `mark` and `clear`, byte by byte and bit by bit.
+use mathlib.Core.Path.{_≡_, sym, ap, ap₂, _∙_, subst}
+use Prim.Native.Nat.{ℕ, _+_, _*_, _-_, _/_, _%_, _^_, _≤_, _<_}
+use native.Mathlib.Nat.{lt-of-lt-of-le, lt-of-not-le, zero-div, div-lt-iff-lt-mul, div-add-mod', mod-lt, le-trans, le-add-right, mul-le-mul-right, le-of-suc-le-suc}
+use native.Mathlib.Decide.{decLt, ℕ-discrete}
+use native.Mathlib.Omega.{arith}
+use mathlib.Core.List.{List}
+use mathlib.Core.Bool.{Bool, false, cond, _&&_, _||_}
+use lib.Arith.{digits-lt, digits-div, digits-mod}
+use lib.Dec.{ltb, eqb}
+use lib.ListN.{length, getD, set, length-set, List·getD-eq-default}
+use lib.Seq.{ext-getD, getD-set-same, getD-set-other}
+use borrow.Author.Tests.{lt-ltb, le-ltb, eq-eqb, ne-eqb}
+use Rattle.plane.specs.Sums.{tab}
+use Rattle.plane.specs.Paint.{bitIn, bit, pack, paint, mark, clear}
+use Rattle.plane.proofs.SumLaws.{length-tab, getD-tab, tab-ext, tab-getD}
+use Rattle.plane.proofs.BitLaws.{bit-pack, pack-lt, same-bits, set-lt, set-bits}
+
+pub zero-bits : (i : ℕ) → bitIn 0 i ≡ false
+unfolding bitIn
+zero-bits i = ap (λ (x : ℕ). eqb (x % 2) 1) (zero-div (2 ^ (7 - i)))
+
+-- a list by index that past `n` is as another: so it is past the end too
+tab-past : (l : List ℕ) (f : ℕ → ℕ) (k : ℕ) → (k < length l → f k ≡ getD l k 0) → getD (tab (length l) f) k 0 ≡ getD l k 0
+tab-past l f k e = go (decLt k (length l))
+  where
+    go : Dec (k < length l) → getD (tab (length l) f) k 0 ≡ getD l k 0
+    go (yes h) = getD-tab (length l) f k h ∙ e h
+    go (no h) =
+        List·getD-eq-default (tab (length l) f) 0 (rw length-tab (omega (arith, lt-of-not-le h))) ∙ sym (List·getD-eq-default l 0 (omega (arith, lt-of-not-le h)))
+
+module _ (n b : ℕ) (on : ℕ → Bool) (px : ℕ → ℕ → ℕ) (t : List ℕ) where
+  pub paint-length : length (paint n b on px t) ≡ length t
+  unfolding paint
+  paint-length = length-tab (length t) _
+
+  pub paint-in : n * b ≤ length t → (p j : ℕ) → p < n → j < b → getD (paint n b on px t) (p * b + j) 0 ≡ cond (on p) (px p j) (getD t (p * b + j) 0)
+  unfolding paint
+  paint-in room p j hp hj =
+      getD-tab (length t) _ (p * b + j) (lt-of-lt-of-le (digits-lt hp hj) room)
+      ∙ simp (lt-ltb _ _ (digits-lt hp hj), digits-div p hj, digits-mod p hj)
+
+  pub paint-at : (k : ℕ) → k < length t → getD (paint n b on px t) k 0 ≡ cond (ltb k (n * b) && on (k / b)) (px (k / b) (k % b)) (getD t k 0)
+  unfolding paint
+  paint-at k h = getD-tab (length t) _ k h
+
+  pub paint-past : (k : ℕ) → n * b ≤ k → getD (paint n b on px t) k 0 ≡ getD t k 0
+  unfolding paint
+  paint-past k h = tab-past t _ k (λ _. simp (le-ltb _ _ h))
+
+  -- byte j of pixel p, of any pixel that the list has
+  pub paint-pixel : (p j : ℕ) → j < b → p * b + j < length t
+      → getD (paint n b on px t) (p * b + j) 0 ≡ cond (ltb p n && on p) (px p j) (getD t (p * b + j) 0)
+  paint-pixel p j hj h = paint-at (p * b + j) h ∙ (rw (digits-div p hj, digits-mod p hj, below (decLt p n)))
+    where
+      below : Dec (p < n) → ltb (p * b + j) (n * b) ≡ ltb p n
+      below (yes l) = lt-ltb (p * b + j) (n * b) (digits-lt l hj) ∙ sym (lt-ltb p n l)
+      below (no l) =
+          le-ltb (p * b + j) (n * b) (le-trans (mul-le-mul-right b (le-of-suc-le-suc (lt-of-not-le l))) (le-add-right (p * b) j)) ∙ sym (le-ltb p n (le-of-suc-le-suc (lt-of-not-le l)))
+
+  -- a list that at each of its n pixels is as painted, and past them as it was, is the painted one
+  pub paint-eq : 1 ≤ b → (t′ : List ℕ) → length t′ ≡ length t
+      → ((p j : ℕ) → p < n → j < b → p * b + j < length t → getD t′ (p * b + j) 0 ≡ cond (on p) (px p j) (getD t (p * b + j) 0))
+      → ((k : ℕ) → n * b ≤ k → k < length t → getD t′ k 0 ≡ getD t k 0)
+      → t′ ≡ paint n b on px t
+  paint-eq hb t′ l e q = ext-getD 0 t′ (paint n b on px t) (l ∙ sym paint-length) (λ k h. go k (rw l at h) (decLt k (n * b)))
+    where
+      go : (k : ℕ) → k < length t → Dec (k < n * b) → getD t′ k 0 ≡ getD (paint n b on px t) k 0
+      go k h (yes i) =
+          subst (λ (z : ℕ). z < length t → getD t′ z 0 ≡ getD (paint n b on px t) z 0) (div-add-mod' k b)
+          (λ h. let i′ : k / b < n = div-lt-iff-lt-mul hb .1 i in
+          e (k / b) (k % b) i′ (mod-lt k hb) h ∙ sym (paint-pixel (k / b) (k % b) (mod-lt k hb) h ∙ (rw (lt-ltb (k / b) n i′))))
+          h
+      go k h (no i) = q k (le-of-suc-le-suc (lt-of-not-le i)) h ∙ sym (paint-past k (le-of-suc-le-suc (lt-of-not-le i)))
+
+module _ (n : ℕ) (on : ℕ → Bool) (m : List ℕ) where
+  pub mark-length : length (mark n on m) ≡ length m
+  unfolding mark
+  mark-length = length-tab (length m) _
+
+  pub mark-past : (k : ℕ) → n ≤ 8 * k → getD (mark n on m) k 0 ≡ getD m k 0
+  unfolding mark
+  mark-past k h = tab-past m _ k (λ _. simp (le-ltb _ _ h))
+
+  mark-in : (k : ℕ) → k < length m → 8 * k < n
+      → getD (mark n on m) k 0 ≡ pack (λ i. (ltb (8 * k + i) n && on (8 * k + i)) || bit m (8 * k + i))
+  unfolding mark
+  mark-in k h l = getD-tab (length m) _ k h ∙ simp (lt-ltb _ _ l)
+
+  pub mark-byte : (k : ℕ) → k < length m → 8 * k < n → getD (mark n on m) k 0 < 256
+  mark-byte k h l = rw (mark-in k h l) (pack-lt _)
+
+  pub mark-bit : (p : ℕ) → p < 8 * length m → bit (mark n on m) p ≡ ((ltb p n && on p) || bit m p)
+  unfolding bit
+  mark-bit p h = go (decLt (8 * (p / 8)) n)
+    where
+      go : Dec (8 * (p / 8) < n) → bitIn (getD (mark n on m) (p / 8) 0) (p % 8) ≡ ((ltb p n && on p) || bitIn (getD m (p / 8) 0) (p % 8))
+      go (yes l) =
+          ap (λ (x : ℕ). bitIn x (p % 8)) (mark-in (p / 8) (omega arith) l)
+          ∙ bit-pack _ (p % 8) (omega arith)
+          ∙ ap (λ (q : ℕ). (ltb q n && on q) || bit m q) (omega arith)
+      go (no l) = rw (mark-past (p / 8) (omega (arith, lt-of-not-le l)), le-ltb p n (omega (arith, lt-of-not-le l)))
+
+module _ (n : ℕ) (m : List ℕ) where
+  pub clear-length : length (clear n m) ≡ length m
+  unfolding clear
+  clear-length = length-tab (length m) _
+
+  pub clear-past : (k : ℕ) → n ≤ 8 * k → getD (clear n m) k 0 ≡ getD m k 0
+  unfolding clear
+  clear-past k h = tab-past m _ k (λ _. simp (le-ltb _ _ h))
+
+  pub clear-in : (k : ℕ) → k < length m → 8 * k < n → getD (clear n m) k 0 ≡ 0
+  unfolding clear
+  clear-in k h l = getD-tab (length m) _ k h ∙ simp (lt-ltb _ _ l)
+
+  pub clear-bit : (p : ℕ) → p < 8 * length m → 8 * (p / 8) < n → bit (clear n m) p ≡ false
+  unfolding bit
+  clear-bit p h l = ap (λ (x : ℕ). bitIn x (p % 8)) (clear-in (p / 8) (omega arith) l) ∙ zero-bits (p % 8)
+
+-- ---- whole maps
+
+-- each of a list's elements is a byte
+abbrev pub Bytes : List ℕ → Type 0
+Bytes m = (k : ℕ) → getD m k 0 < 256
+
+-- bit i of byte k of a map
+pub cell : (k i : ℕ) → i < 8 → (m : List ℕ) → bitIn (getD m k 0) i ≡ bit m (8 * k + i)
+unfolding bit
+cell k i h m = ap₂ (λ (c e : ℕ). bitIn (getD m c 0) e) (omega arith) (omega arith)
+
+-- two maps with the same bits
+pub same-map : (m m′ : List ℕ) → length m ≡ length m′ → Bytes m → Bytes m′ → ((p : ℕ) → p < 8 * length m → bit m p ≡ bit m′ p) → m ≡ m′
+same-map m m′ l h h′ e =
+    ext-getD 0 m m′ l (λ k b. same-bits _ _ (h k) (h′ k) (λ i c. cell k i c m ∙ e (8 * k + i) (omega arith) ∙ sym (cell k i c m′)))
+
+pub mark-bytes : (n : ℕ) (on : ℕ → Bool) (m : List ℕ) → Bytes m → Bytes (mark n on m)
+mark-bytes n on m h k = go (decLt (8 * k) n) (decLt k (length m))
+  where
+    go : Dec (8 * k < n) → Dec (k < length m) → getD (mark n on m) k 0 < 256
+    go (yes a) (yes b) = mark-byte n on m k b a
+    go (no a) d = rw (mark-past n on m k (omega (arith, lt-of-not-le a))) (h k)
+    go (yes a) (no b) = rw (List·getD-eq-default (mark n on m) 0 {n = k} (rw (mark-length n on m) (omega (arith, lt-of-not-le b)))) (omega arith)
+
+-- marking what is set already: the bytes that hold the n bits are packed again, so they have to be bytes
+pub mark-noop : (n : ℕ) (on : ℕ → Bool) (m : List ℕ) → ((k : ℕ) → 8 * k < n → getD m k 0 < 256) → ((p : ℕ) → p < n → (on p || bit m p) ≡ bit m p) → mark n on m ≡ m
+unfolding mark
+mark-noop n on m h e = tab-ext (length m) _ _ (λ k _. go k (decLt (8 * k) n)) ∙ sym (tab-getD m)
+  where
+    same : (p : ℕ) → Dec (p < n) → ((ltb p n && on p) || bit m p) ≡ bit m p
+    same p (yes l) = rw (lt-ltb p n l) (e p l)
+    same p (no l) = rw (le-ltb p n (omega (arith, lt-of-not-le l)))
+
+    go : (k : ℕ) → Dec (8 * k < n) → cond (ltb (8 * k) n) (pack (λ i. (ltb (8 * k + i) n && on (8 * k + i)) || bit m (8 * k + i))) (getD m k 0) ≡ getD m k 0
+    go k (yes l) =
+        rw (lt-ltb (8 * k) n l)
+        (same-bits (pack _) (getD m k 0) (pack-lt _) (h k l) (λ i c. bit-pack _ i c ∙ same (8 * k + i) (decLt (8 * k + i) n) ∙ sym (cell k i c m)))
+    go k (no l) = rw (le-ltb (8 * k) n (omega (arith, lt-of-not-le l)))
+
+-- painting nothing
+pub paint-none : (n b : ℕ) (on : ℕ → Bool) (px : ℕ → ℕ → ℕ) (t : List ℕ) → 1 ≤ b → ((p : ℕ) → p < n → on p ≡ false) → paint n b on px t ≡ t
+unfolding paint
+paint-none n b on px t hb e =
+    tab-ext (length t) _ _ (λ k l. go k (decLt k (n * b))) ∙ sym (tab-getD t)
+  where
+    go : (k : ℕ) → Dec (k < n * b) → cond (ltb k (n * b) && on (k / b)) (px (k / b) (k % b)) (getD t k 0) ≡ getD t k 0
+    go k (yes l) = rw (lt-ltb k (n * b) l, e (k / b) (div-lt-iff-lt-mul hb .1 l))
+    go k (no l) = rw (le-ltb k (n * b) (omega (arith, lt-of-not-le l)))
+
+-- a zero bit set by a store
+unfoldable pub setBit : List ℕ → ℕ → List ℕ
+setBit m p = set m (p / 8) (getD m (p / 8) 0 + 2 ^ (7 - p % 8))
+
+module _ (m : List ℕ) (h : Bytes m) (p : ℕ) (l : p < 8 * length m) (e : bit m p ≡ false) where
+  pub setBit-length : length (setBit m p) ≡ length m
+  unfolding setBit
+  setBit-length = length-set m (p / 8) _
+
+  at-cell : getD (setBit m p) (p / 8) 0 ≡ getD m (p / 8) 0 + 2 ^ (7 - p % 8)
+  unfolding setBit
+  at-cell = getD-set-same m (p / 8) _ 0 (omega arith)
+
+  off-cell : (k : ℕ) → (k ≡ p / 8 → ⊥) → getD (setBit m p) k 0 ≡ getD m k 0
+  unfolding setBit
+  off-cell k n = getD-set-other m (p / 8) k _ 0 n
+
+  pub setBit-bytes : Bytes (setBit m p)
+  unfolding bit
+  setBit-bytes k = go (ℕ-discrete k (p / 8))
+    where
+      go : Dec (k ≡ p / 8) → getD (setBit m p) k 0 < 256
+      go (yes q) = rw (q, at-cell) (set-lt (getD m (p / 8) 0) (h (p / 8)) (p % 8) (omega arith) e)
+      go (no q) = rw (off-cell k q) (h k)
+
+  pub setBit-bit : (q : ℕ) → bit (setBit m p) q ≡ (eqb q p || bit m q)
+  unfolding bit
+  setBit-bit q = go (ℕ-discrete (q / 8) (p / 8)) (ℕ-discrete (q % 8) (p % 8))
+    where
+      go : Dec (q / 8 ≡ p / 8) → Dec (q % 8 ≡ p % 8) → bitIn (getD (setBit m p) (q / 8) 0) (q % 8) ≡ (eqb q p || bitIn (getD m (q / 8) 0) (q % 8))
+      go (yes a) d =
+          ap (λ (k : ℕ). bitIn (getD (setBit m p) k 0) (q % 8)) a ∙ ap (λ (x : ℕ). bitIn x (q % 8)) at-cell
+          ∙ set-bits (getD m (p / 8) 0) (h (p / 8)) (p % 8) (omega arith) e (q % 8) (omega arith)
+          ∙ ap₂ (λ (x : Bool) (k : ℕ). x || bitIn (getD m k 0) (q % 8)) (same d) (sym a)
+        where
+          same : Dec (q % 8 ≡ p % 8) → eqb (q % 8) (p % 8) ≡ eqb q p
+          same (yes c) = eq-eqb (q % 8) (p % 8) c ∙ sym (eq-eqb q p (omega arith))
+          same (no c) = ne-eqb (q % 8) (p % 8) c ∙ sym (ne-eqb q p (λ z. c (ap (λ (x : ℕ). x % 8) z)))
+      go (no a) d = rw (off-cell (q / 8) a, ne-eqb q p (λ z. a (ap (λ (x : ℕ). x / 8) z)))

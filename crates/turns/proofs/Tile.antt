@@ -1,0 +1,121 @@
+-- A tile by its rectangle, in a window: where it gives nothing, and what it gives in a row.
+use mathlib.Core.Path.{_≡_, refl, sym, ap}
+use mathlib.Core.Logic.{_⊎_, ⊎-elim}
+use Prim.Native.Nat.{ℕ, _+_, _*_, _-_, _≤_, _<_}
+use native.Mathlib.Nat.{div-lt-iff-lt-mul, le-div-iff-mul-le, mod-lt}
+use native.Mathlib.Omega.{arith}
+use mathlib.Core.List.{List}
+use mathlib.Core.Bool.{Bool, true, false, _&&_, true≢false}
+use lib.Arith.{digits-div, digits-mod}
+use lib.Dec.{ltb, leb}
+use lib.ListN.{getD, drop}
+use lib.Seq.{getD-drop}
+use borrow.Author.Tests.{lt-ltb, le-ltb, le-leb, leb-true, ltb-true}
+use Rattle.plane.specs.Tiles.{area, colOf, rowOf, givesAt}
+use Rattle.plane.specs.Paint.{bit}
+use Rattle.plane.specs.Cuts.{Inside, Meets}
+use Rattle.plane.proofs.Tests.{by-bool}
+use Rattle.paint.specs.Row.{validAt}
+use Rattle.turns.specs.TileOf.{windowOf, covers, validIn, tileOf}
+use Rattle.turns.specs.Turned.{LineOf, Clipped}
+use Rattle.turns.specs.declared.Rect.{Rect}
+use Rattle.turns.specs.declared.Mask.{Mask}
+use Rattle.turns.specs.declared.MaskLine.{MaskLine}
+use Rattle.turns.specs.declared.Clip.{Clip}
+
+and-left : (x y : Bool) → (x && y) ≡ true → x ≡ true
+and-left true y e = refl
+and-left false y e = e
+
+and-right : (x y : Bool) → (x && y) ≡ true → y ≡ true
+and-right true y e = e
+and-right false y e = absurd (true≢false (sym e))
+
+-- the test of a rectangle, as facts
+inside : (a : Rect) (u v : ℕ) → covers a u v ≡ true → Inside (windowOf a) u v
+unfolding covers
+inside a u v e =
+    let h = and-left (leb (a .left) u && ltb u (a .left + a .width)) _ e in
+    let g = and-right (leb (a .left) u && ltb u (a .left + a .width)) _ e in
+    record {
+      left = leb-true _ _ (and-left (leb (a .left) u) _ h);
+      right = ltb-true _ _ (and-right (leb (a .left) u) _ h);
+      top = leb-true _ _ (and-left (leb (a .top) v) _ g);
+      bottom = ltb-true _ _ (and-right (leb (a .top) v) _ g);
+    }
+
+covers-inside : (a : Rect) (u v : ℕ) → Inside (windowOf a) u v → covers a u v ≡ true
+unfolding covers
+covers-inside a u v h = rw (le-leb _ _ (h .left), lt-ltb _ _ (h .right), le-leb _ _ (h .top), lt-ltb _ _ (h .bottom))
+
+-- the mask's line
+pub valid-line : (k : Mask) (lines : List ℕ) (r : ℕ) (l : MaskLine) → LineOf k r l → (c : ℕ) → validAt (k .on) (drop (l .start) lines) (l .width) c ≡ validIn k lines c r
+unfolding validIn bit
+valid-line k lines r l e c = by-bool (k .on) on (λ o. rw o)
+  where
+    on : k .on ≡ true → validAt (k .on) (drop (l .start) lines) (l .width) c ≡ validIn k lines c r
+    on o = by-bool (ltb r (k .height))
+        (λ h. rw (e .start, e .width, o, h, getD-drop))
+        (λ h. rw (e .start, e .width, o, h, le-ltb c 0 (omega arith)))
+
+module _ (rank : ℕ) (w a : Rect) (b : ℕ) (src : List ℕ) (k : Mask) (lines : List ℕ) where
+  pub off : (p : ℕ) → (Inside (windowOf a) (colOf (windowOf w) p) (rowOf (windowOf w) p) → ⊥) → givesAt (windowOf w) (tileOf rank a b src k lines) p ≡ false
+  unfolding tileOf
+  off p n =
+      by-bool (covers a (colOf (windowOf w) p) (rowOf (windowOf w) p)) (λ e. absurd (n (inside a _ _ e))) (λ e. rw e)
+
+  -- pixel x of row y
+  at-col : (y x : ℕ) → x < w .width → colOf (windowOf w) (y * w .width + x) ≡ w .left + x
+  at-col y x h = ap (λ (z : ℕ). w .left + z) (digits-mod y h)
+
+  at-row : (y x : ℕ) → x < w .width → rowOf (windowOf w) (y * w .width + x) ≡ w .top + y
+  at-row y x h = ap (λ (z : ℕ). w .top + z) (digits-div y h)
+
+  pub here : (y x : ℕ) → x < w .width → Inside (windowOf a) (w .left + x) (w .top + y)
+      → givesAt (windowOf w) (tileOf rank a b src k lines) (y * w .width + x) ≡ validIn k lines (w .left + x - a .left) (w .top + y - a .top)
+  unfolding tileOf
+  here y x h i = rw (at-col y x h, at-row y x h, covers-inside a _ _ i)
+
+  pub byte-here : (y x j : ℕ) → x < w .width
+      → tileOf rank a b src k lines .byte (colOf (windowOf w) (y * w .width + x)) (rowOf (windowOf w) (y * w .width + x)) j
+      ≡ getD src (((w .top + y - a .top) * a .width + (w .left + x - a .left)) * b + j) 0
+  unfolding tileOf
+  byte-here y x j h = rw (at-col y x h, at-row y x h)
+
+  -- of a row's pixels, those outside the clip; and rows above and below it
+  pub off-row : (c : Clip) → Clipped w a c → (y x : ℕ) → x < w .width → (w .left + x < c .left) ⊎ (c .right ≤ w .left + x)
+      → givesAt (windowOf w) (tileOf rank a b src k lines) (y * w .width + x) ≡ false
+  off-row c e y x h o = off (y * w .width + x) (λ i. ⊎-elim (λ l. less i l) (λ l. more i l) o)
+    where
+      less : Inside (windowOf a) (colOf (windowOf w) (y * w .width + x)) (rowOf (windowOf w) (y * w .width + x)) → w .left + x < c .left → ⊥
+      less i l = omega (arith, at-col y x h, i .left, e .left)
+
+      more : Inside (windowOf a) (colOf (windowOf w) (y * w .width + x)) (rowOf (windowOf w) (y * w .width + x)) → c .right ≤ w .left + x → ⊥
+      more i l = omega (arith, at-col y x h, i .right, e .right)
+
+  pub off-above : (c : Clip) → Clipped w a c → 1 ≤ w .width → (n p : ℕ) → n + w .top ≤ c .top → p < n * w .width → givesAt (windowOf w) (tileOf rank a b src k lines) p ≡ false
+  off-above c e hw n p l h = off p (λ i. omega (arith, i .top, e .top, div-lt-iff-lt-mul hw .1 h))
+
+  pub off-below : (c : Clip) → Clipped w a c → 1 ≤ w .width → (n p : ℕ) → c .bottom ≤ n + w .top → n * w .width ≤ p → p < w .height * w .width
+      → givesAt (windowOf w) (tileOf rank a b src k lines) p ≡ false
+  off-below c e hw n p l h h′ = off p (λ i. omega (arith, i .bottom, e .bottom, div-lt-iff-lt-mul hw .1 h′, le-div-iff-mul-le hw .1 h))
+
+  -- nothing at all where they do not meet
+  pub apart : 1 ≤ w .width → (Meets (windowOf a) (windowOf w) → ⊥) → (p : ℕ) → p < area (windowOf w) → givesAt (windowOf w) (tileOf rank a b src k lines) p ≡ false
+  apart hw n p h =
+      off p (λ i. n (record {
+        left = omega (arith, i .right);
+        right = omega (arith, i .left, mod-lt p hw);
+        top = omega (arith, i .bottom);
+        bottom = omega (arith, i .top, div-lt-iff-lt-mul hw .1 h);
+      }))
+
+  pub off-all : (c : Clip) → Clipped w a c → 1 ≤ w .width → (c .right ≤ c .left) ⊎ (c .bottom ≤ c .top) → (p : ℕ) → p < w .height * w .width
+      → givesAt (windowOf w) (tileOf rank a b src k lines) p ≡ false
+  off-all c e hw o p h = off p (λ i. ⊎-elim (λ l. side i l) (λ l. foot i l) o)
+    where
+      side : Inside (windowOf a) (colOf (windowOf w) p) (rowOf (windowOf w) p) → c .right ≤ c .left → ⊥
+      side i l = omega (arith, i .left, i .right, e .left, e .right, mod-lt p hw)
+
+      foot : Inside (windowOf a) (colOf (windowOf w) p) (rowOf (windowOf w) p) → c .bottom ≤ c .top → ⊥
+      foot i l = omega (arith, i .top, i .bottom, e .top, e .bottom, div-lt-iff-lt-mul hw .1 h)

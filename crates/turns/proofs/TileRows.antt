@@ -1,0 +1,283 @@
+-- The loop over the rows of a tile in a window.
+use mathlib.Core.Path.{_≡_, refl, sym, ap, ap₂, _∙_, subst}
+use mathlib.Core.Logic.{_⊎_, inl, inr}
+use Prim.Native.Nat.{ℕ, _+_, _*_, _-_, _^_, _≤_, _<_, min, max}
+use native.Mathlib.Nat.{mul-le-mul-right, suc-mul, add-mul, le-trans, le-mul-of-pos-right, lt-of-le-of-lt, add-sub-of-le, add-assoc, le-add-right}
+use native.Mathlib.Numerals.{add-one}
+use native.Mathlib.Omega.{arith}
+use mathlib.Core.List.{List}
+use mathlib.Core.Bool.{Bool, true, false, _&&_, true≢false}
+use lib.Dec.{ltb}
+use lib.ListN.{length, getD, drop}
+use borrow.Author.Tests.{ltb-true}
+use Rattle.plane.specs.Tiles.{area, colOf, rowOf, givesAt}
+use Rattle.plane.specs.Turns.{turnGives}
+use Rattle.plane.specs.Cuts.{Inside}
+use Rattle.plane.proofs.Tests.{by-bool}
+use Rattle.plane.proofs.PaintLaws.{Bytes, paint-length, mark-length}
+use Rattle.plane.proofs.SumLaws.{count-le}
+use Rattle.paint.proofs.Rows.{part-end}
+use Rattle.paint.specs.Row.{validAt, rowGives}
+use Rattle.turns.specs.TileOf.{windowOf, validIn, tileOf}
+use Rattle.turns.specs.Turned.{kindOf, LineOf, StretchRoom, StretchPainted, TurnRoom, Turned, Clipped}
+use Rattle.turns.specs.declared.Rect.{Rect}
+use Rattle.turns.specs.declared.Mask.{Mask}
+use Rattle.turns.specs.declared.MaskLine.{MaskLine}
+use Rattle.turns.specs.declared.Clip.{Clip}
+use Rattle.turns.proofs.Turns.{Done, done-none, done-more, done-stretch, done-all}
+use Rattle.turns.proofs.Tile.{valid-line, off-row, off-above, off-below, off-all, here, byte-here}
+
+pub record Rows (t₀ m₀ : List ℕ) (w a : Rect) (src : List ℕ) (b : ℕ) (k : Mask) (lines : List ℕ) (q : Bool) (n x col stop y : ℕ) (t m : List ℕ) (g : ℕ) : Type 0 where
+  pub room : TurnRoom t₀ m₀ w a src b k lines
+  pub bytes : Bytes m₀
+  pub size : length t₀ < 2 ^ 64
+  pub sources : length src < 2 ^ 64
+  pub masks : length lines < 2 ^ 64
+  pub at-col : w .left + col ≡ max (w .left) (a .left)
+  pub at-x : a .left + x ≡ max (w .left) (a .left)
+  pub at-n : w .left + col + n ≡ min (w .left + w .width) (a .left + a .width)
+  pub at-stop : w .top + stop ≡ min (w .top + w .height) (a .top + a .height)
+  pub low : y ≤ stop
+  pub high : max (w .top) (a .top) ≤ w .top + y
+  pub done : (rank : ℕ) → Done (kindOf q) (windowOf w) b (tileOf rank a b src k lines) t₀ m₀ (y * w .width) t m g
+
+-- the meeting, as a record
+abbrev clipOf : Rect → Rect → Clip
+clipOf w a = record {
+  left = max (w .left) (a .left);
+  right = min (w .left + w .width) (a .left + a .width);
+  top = max (w .top) (a .top);
+  bottom = min (w .top + w .height) (a .top + a .height);
+}
+
+clipped : (w a : Rect) → Clipped w a (clipOf w a)
+clipped w a = record { left = refl; right = refl; top = refl; bottom = refl }
+
+-- what a row's numbers are
+pub record Numbers (t₀ m₀ : List ℕ) (w a : Rect) (src : List ℕ) (k : Mask) (b n x col y : ℕ) (t m : List ℕ) (g : ℕ) : Type 0 where
+  pub above : a .top ≤ y + w .top
+  pub row : y + w .top - a .top < a .height
+  pub fits : y * w .width + w .width ≤ w .height * w .width
+  pub width : col + n ≤ w .width
+  pub source : (y + w .top - a .top) * a .width + a .width ≤ a .height * a .width
+  pub columns : x + n ≤ a .width
+  pub area : w .height * w .width < 2 ^ 64
+  pub target : w .height * w .width * b ≤ length t
+  pub map : w .height * w .width ≤ 8 * length m
+  pub from : ((y + w .top - a .top) * a .width + x) * b + n * b ≤ length src
+  pub given : g ≤ y * w .width
+  pub row-start : y * w .width < 2 ^ 64
+  pub first : y * w .width + col < 2 ^ 64
+  pub src-row : (y + w .top - a .top) * a .width < 2 ^ 64
+  pub src-pixel : (y + w .top - a .top) * a .width + x < 2 ^ 64
+  pub src-byte : ((y + w .top - a .top) * a .width + x) * b < 2 ^ 64
+  pub held : k .height * k .stride < 2 ^ 64
+  pub sum : y + w .top < 2 ^ 64
+
+module _ {t₀ m₀ : List ℕ} {w a : Rect} {src : List ℕ} {b : ℕ} {k : Mask} {lines : List ℕ} {q : Bool} {n x col stop y : ℕ} {t m : List ℕ} {g : ℕ}
+    (o : Rows t₀ m₀ w a src b k lines q n x col stop y t m g) where
+  pub rows-target : length t ≡ length t₀
+  rows-target = ap length (o .done 0 .target) ∙ paint-length (y * w .width) b _ _ t₀
+
+  pub rows-map : length m ≡ length m₀
+  rows-map = ap length (o .done 0 .map) ∙ mark-length (y * w .width) _ m₀
+
+  pub numbers : y < stop → Numbers t₀ m₀ w a src k b n x col y t m g
+  numbers l =
+      let hb = o .room .room .bytes in
+      let row : y + w .top - a .top < a .height = omega (arith, o .at-stop, o .high) in
+      let cols : x + n ≤ a .width = omega (arith, o .at-col, o .at-x, o .at-n) in
+      let wide : col + n ≤ w .width = omega (arith, o .at-n) in
+      let fits : y * w .width + w .width ≤ w .height * w .width = part-end y (w .height) (w .width) (omega (arith, o .at-stop)) in
+      let src-end : (y + w .top - a .top) * a .width + a .width ≤ a .height * a .width = part-end _ _ _ row in
+      let all : w .height * w .width < 2 ^ 64 = lt-of-le-of-lt (le-trans (le-mul-of-pos-right (w .height * w .width) hb) (o .room .room .target)) (o .size) in
+      let all-src : a .height * a .width < 2 ^ 64 = lt-of-le-of-lt (le-trans (le-mul-of-pos-right (a .height * a .width) hb) (o .room .source)) (o .sources) in
+      let from : ((y + w .top - a .top) * a .width + x) * b + n * b ≤ length src =
+      le-trans (rw (add-mul ((y + w .top - a .top) * a .width + x) n b) at (mul-le-mul-right b (more (y + w .top - a .top) src-end cols))) (o .room .source) in
+      record {
+        above = omega (arith, o .high);
+        row = row;
+        fits = fits;
+        width = wide;
+        source = src-end;
+        columns = cols;
+        area = all;
+        target = rw rows-target (o .room .room .target);
+        map = rw rows-map (o .room .room .map);
+        from = from;
+        given = rw (o .done 0 .given) (count-le (y * w .width) (turnGives (kindOf q) (windowOf w) (tileOf 0 a b src k lines) m₀));
+        row-start = below-start (y * w .width) (w .height * w .width) fits all;
+        first = below-first (y * w .width) (w .height * w .width) fits wide all;
+        src-row = below-row ((y + w .top - a .top) * a .width) (a .height * a .width) src-end all-src;
+        src-pixel = below-pixel ((y + w .top - a .top) * a .width) (a .height * a .width) src-end cols all-src;
+        src-byte = lt-of-le-of-lt (le-trans (le-add-right _ (n * b)) from) (o .sources);
+        held = lt-of-le-of-lt (o .room .mask) (o .masks);
+        sum = omega (arith, o .at-stop, o .room .window-bottom);
+      }
+    where
+      more : (r : ℕ) → r * a .width + a .width ≤ a .height * a .width → x + n ≤ a .width → r * a .width + x + n ≤ a .height * a .width
+      more r e f = omega arith
+
+      below-start : (p s : ℕ) → p + w .width ≤ s → s < 2 ^ 64 → p < 2 ^ 64
+      below-start p s e f = omega arith
+
+      below-first : (p s : ℕ) → p + w .width ≤ s → col + n ≤ w .width → s < 2 ^ 64 → p + col < 2 ^ 64
+      below-first p s e c f = omega arith
+
+      below-row : (p s : ℕ) → p + a .width ≤ s → s < 2 ^ 64 → p < 2 ^ 64
+      below-row p s e f = omega arith
+
+      below-pixel : (p s : ℕ) → p + a .width ≤ s → x + n ≤ a .width → s < 2 ^ 64 → p + x < 2 ^ 64
+      below-pixel p s e c f = omega arith
+
+  -- what the line painter asks
+  pub row-room : (l : y < stop) (e : MaskLine) → LineOf k (y + w .top - a .top) e
+      → StretchRoom t m (y * w .width + col) src (((y + w .top - a .top) * a .width + x) * b) b n (k .on) lines (e .start) (e .width) x
+  row-room l e f =
+      let u = numbers l in
+      record {
+        bytes = o .room .room .bytes;
+        target = le-trans (mul-le-mul-right b (pixels u)) (u .target);
+        source = u .from;
+        bits = le-trans (pixels u) (u .map);
+        start = by-bool (k .on && ltb r (k .height)) (λ c. rw (f .start, c) (omega (arith, lines-fit c))) (λ c. rw (f .start, c) (omega arith));
+        mask = λ _. by-bool (k .on && ltb r (k .height)) (λ c. rw (f .start, f .width, c) (omega (arith, lines-fit c, o .room .stride))) (λ c. rw (f .width, c) (omega arith));
+        columns = lt-of-le-of-lt (u .columns) (omega (arith, o .room .tile-right));
+      }
+    where
+      r : ℕ
+      r = y + w .top - a .top
+
+      pixels : Numbers t₀ m₀ w a src k b n x col y t m g → y * w .width + col + n ≤ w .height * w .width
+      pixels u = omega (arith, u .fits, u .width)
+
+      lines-fit : (k .on && ltb r (k .height)) ≡ true → r * k .stride + k .stride ≤ length lines
+      lines-fit c = le-trans (part-end r (k .height) (k .stride) (below (k .on) c)) (o .room .mask)
+        where
+          below : (z : Bool) → (z && ltb r (k .height)) ≡ true → r < k .height
+          below true d = ltb-true r (k .height) d
+          below false d = absurd (true≢false (sym d))
+
+  -- a row more
+  pub rows-more : (l : y < stop) (e : MaskLine) → LineOf k (y + w .top - a .top) e → {t′ m′ : List ℕ} {r : ℕ}
+      → StretchPainted t m (y * w .width + col) src (((y + w .top - a .top) * a .width + x) * b) b n (k .on) lines (e .start) (e .width) x q t′ m′ r
+      → Rows t₀ m₀ w a src b k lines q n x col stop (y + 1) t′ m′ (g + r)
+  rows-more l e f {t′} {m′} {r} c = record {
+    room = o .room;
+    bytes = o .bytes;
+    size = o .size;
+    sources = o .sources;
+    masks = o .masks;
+    at-col = o .at-col;
+    at-x = o .at-x;
+    at-n = o .at-n;
+    at-stop = o .at-stop;
+    low = omega arith;
+    high = omega (arith, o .high);
+    done = λ rank. step rank;
+  }
+    where
+      u : Numbers t₀ m₀ w a src k b n x col y t m g
+      u = numbers l
+
+      next : (y + 1) * w .width ≡ y * w .width + w .width
+      next = ap (λ (z : ℕ). z * w .width) (add-one y) ∙ suc-mul y (w .width)
+
+      -- a pixel between the ends of the row
+      across : (rank p : ℕ) → y * w .width ≤ p → p < (y + 1) * w .width → (w .left + (p - y * w .width) < max (w .left) (a .left)) ⊎ (min (w .left + w .width) (a .left + a .width) ≤ w .left + (p - y * w .width))
+          → givesAt (windowOf w) (tileOf rank a b src k lines) p ≡ false
+      across rank p h h′ d =
+          subst (λ (z : ℕ). givesAt (windowOf w) (tileOf rank a b src k lines) z ≡ false) (add-sub-of-le h)
+          (off-row rank w a b src k lines (clipOf w a) (clipped w a) y (p - y * w .width) (omega (arith, next)) d)
+
+      inside : (i : ℕ) → i < n → Inside (windowOf a) (w .left + (col + i)) (w .top + y)
+      inside i h = record {
+        left = omega (arith, o .at-col);
+        right = omega (arith, o .at-n);
+        top = omega (arith, o .high);
+        bottom = omega (arith, o .at-stop);
+      }
+
+      same-col : (i : ℕ) → w .left + (col + i) - a .left ≡ x + i
+      same-col i = omega (arith, o .at-col, o .at-x)
+
+      same-row : w .top + y - a .top ≡ y + w .top - a .top
+      same-row = omega arith
+
+      valid : (rank i : ℕ) → i < n → validAt (k .on) (drop (e .start) lines) (e .width) (x + i) ≡ givesAt (windowOf w) (tileOf rank a b src k lines) (y * w .width + col + i)
+      valid rank i h =
+          valid-line k lines (y + w .top - a .top) e f (x + i)
+          ∙ sym (ap (λ (z : ℕ). givesAt (windowOf w) (tileOf rank a b src k lines) z) (add-assoc (y * w .width) col i)
+          ∙ here rank w a b src k lines y (col + i) (omega (arith, u .width)) (inside i h)
+          ∙ ap₂ (λ (c r : ℕ). validIn k lines c r) (same-col i) same-row)
+
+      source : (rank i j : ℕ) → i < n → j < b
+          → getD src (((y + w .top - a .top) * a .width + x) * b + i * b + j) 0
+          ≡ tileOf rank a b src k lines .byte (colOf (windowOf w) (y * w .width + col + i)) (rowOf (windowOf w) (y * w .width + col + i)) j
+      source rank i j h hj =
+          sym (ap (λ (z : ℕ). tileOf rank a b src k lines .byte (colOf (windowOf w) z) (rowOf (windowOf w) z) j) (add-assoc (y * w .width) col i)
+          ∙ byte-here rank w a b src k lines y (col + i) j (omega (arith, u .width))
+          ∙ ap (λ (z : ℕ). getD src z 0) (place (w .top + y - a .top) (w .left + (col + i) - a .left) (y + w .top - a .top) same-row (same-col i)))
+        where
+          place : (v′ u′ v : ℕ) → v′ ≡ v → u′ ≡ x + i → (v′ * a .width + u′) * b + j ≡ (v * a .width + x) * b + i * b + j
+          place v′ u′ v e₁ e₂ = ap₂ (λ (y z : ℕ). (y * a .width + z) * b + j) e₁ e₂ ∙ ap (λ (z : ℕ). z * b + j) (sym (add-assoc (v * a .width) x i)) ∙ ap (λ (z : ℕ). z + j) (add-mul (v * a .width + x) i b)
+
+      step : (rank : ℕ) → Done (kindOf q) (windowOf w) b (tileOf rank a b src k lines) t₀ m₀ ((y + 1) * w .width) t′ m′ (g + r)
+      step rank =
+          done-more (kindOf q) (windowOf w) b (o .room .room .bytes) (tileOf rank a b src k lines) t₀ m₀ (o .bytes) (y * w .width + col + n) ((y + 1) * w .width)
+          (done-stretch q (windowOf w) b (o .room .room .bytes) (tileOf rank a b src k lines) t₀ m₀ (o .bytes) (y * w .width + col) n src (((y + w .top - a .top) * a .width + x) * b) (k .on) lines
+          (e .start) (e .width) x
+          (done-more (kindOf q) (windowOf w) b (o .room .room .bytes) (tileOf rank a b src k lines) t₀ m₀ (o .bytes) (y * w .width) (y * w .width + col) (o .done rank) (omega arith)
+          (λ p h h′. across rank p h (omega (arith, next, u .width)) (inl (omega (arith, o .at-col)))))
+          c (omega (arith, o .room .room .map, u .fits, u .width)) (valid rank) (source rank))
+          (omega (arith, next, u .width))
+          (λ p h h′. across rank p (omega arith) h′ (inr (omega (arith, o .at-n))))
+
+-- before the first row, and after the last
+pub rows-none : (t₀ m₀ : List ℕ) (w a : Rect) (src : List ℕ) (b : ℕ) (k : Mask) (lines : List ℕ) (q : Bool) (c : Clip)
+    → TurnRoom t₀ m₀ w a src b k lines → Bytes m₀ → length t₀ < 2 ^ 64 → length src < 2 ^ 64 → length lines < 2 ^ 64 → Clipped w a c → c .left < c .right → c .top < c .bottom
+    → Rows t₀ m₀ w a src b k lines q (c .right - c .left) (c .left - a .left) (c .left - w .left) (c .bottom - w .top) (c .top - w .top) t₀ m₀ 0
+rows-none t₀ m₀ w a src b k lines q c r h l l′ l″ e s s′ = record {
+  room = r;
+  bytes = h;
+  size = l;
+  sources = l′;
+  masks = l″;
+  at-col = omega (arith, e .left);
+  at-x = omega (arith, e .left);
+  at-n = omega (arith, e .left, e .right);
+  at-stop = omega (arith, e .top, e .bottom);
+  low = omega arith;
+  high = omega (arith, e .top);
+  done = λ rank.
+      done-more (kindOf q) (windowOf w) b (r .room .bytes) (tileOf rank a b src k lines) t₀ m₀ h 0 ((c .top - w .top) * w .width)
+      (done-none (kindOf q) (windowOf w) b (r .room .bytes) (tileOf rank a b src k lines) t₀ m₀ h) (omega arith)
+      (λ p _ i. off-above rank w a b src k lines c e (r .room .wide) (c .top - w .top) p (omega (arith, e .top)) i);
+}
+
+turned : (t₀ m₀ : List ℕ) (w a : Rect) (src : List ℕ) (b : ℕ) (k : Mask) (lines : List ℕ) (q : Bool) {t m : List ℕ} {g : ℕ}
+    → ((rank : ℕ) → Done (kindOf q) (windowOf w) b (tileOf rank a b src k lines) t₀ m₀ (w .height * w .width) t m g)
+    → Turned t₀ m₀ w a src b k lines q t m g
+turned t₀ m₀ w a src b k lines q d = record { turned = λ rank stored. done-all (kindOf q) (windowOf w) b (tileOf rank a b src k lines) t₀ m₀ stored (d rank) }
+
+pub rows-all : {t₀ m₀ : List ℕ} {w a : Rect} {src : List ℕ} {b : ℕ} {k : Mask} {lines : List ℕ} {q : Bool} {n x col stop y : ℕ} {t m : List ℕ} {g : ℕ}
+    → Rows t₀ m₀ w a src b k lines q n x col stop y t m g → stop ≤ y → Turned t₀ m₀ w a src b k lines q t m g
+rows-all {t₀} {m₀} {w} {a} {src} {b} {k} {lines} {q} {n} {x} {col} {stop} {y} o l =
+    turned t₀ m₀ w a src b k lines q
+    (λ rank. done-more (kindOf q) (windowOf w) b (o .room .room .bytes) (tileOf rank a b src k lines) t₀ m₀ (o .bytes) (y * w .width) (w .height * w .width) (o .done rank)
+    (mul-le-mul-right (w .width) (omega (arith, o .at-stop, o .low)))
+    (λ p h h′. off-below rank w a b src k lines (clipOf w a) (clipped w a) (o .room .room .wide) y p (omega (arith, o .at-stop)) h h′))
+
+pub rows-apart : (t₀ m₀ : List ℕ) (w a : Rect) (src : List ℕ) (b : ℕ) (k : Mask) (lines : List ℕ) (q : Bool) (c : Clip)
+    → TurnRoom t₀ m₀ w a src b k lines → Bytes m₀ → Clipped w a c → (c .right ≤ c .left) ⊎ (c .bottom ≤ c .top) → Turned t₀ m₀ w a src b k lines q t₀ m₀ 0
+rows-apart t₀ m₀ w a src b k lines q c r h e d =
+    turned t₀ m₀ w a src b k lines q
+    (λ rank. done-more (kindOf q) (windowOf w) b (r .room .bytes) (tileOf rank a b src k lines) t₀ m₀ h 0 (w .height * w .width)
+    (done-none (kindOf q) (windowOf w) b (r .room .bytes) (tileOf rank a b src k lines) t₀ m₀ h) (omega arith)
+    (λ p _ i. off-all rank w a b src k lines c e (r .room .wide) d p i))
+
+-- a line gives at most its pixels
+pub stretch-given : {t m : List ℕ} {first : ℕ} {src : List ℕ} {from b n : ℕ} {masked : Bool} {lines : List ℕ} {line mw x : ℕ} {q : Bool} {t′ m′ : List ℕ} {r : ℕ}
+    → StretchPainted t m first src from b n masked lines line mw x q t′ m′ r → r ≤ n
+stretch-given {m = m} {first = first} {n = n} {masked = masked} {lines = lines} {line = line} {mw = mw} {x = x} {q = q} c =
+    rw (c .given) (count-le n (rowGives q m first masked (drop line lines) mw x))

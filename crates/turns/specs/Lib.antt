@@ -1,0 +1,2 @@
+pub mod TileOf
+pub mod Turned

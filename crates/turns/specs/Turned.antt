@@ -1,0 +1,70 @@
+-- A tile's turn over lent bytes: where window and tile meet, a mask's line, a row's stretch of the target, the whole turn.
+use mathlib.Core.Path.{_≡_}
+use Prim.Native.Nat.{ℕ, _+_, _*_, _-_, _^_, _≤_, _<_, min, max}
+use mathlib.Core.List.{List}
+use mathlib.Core.Bool.{Bool, true, false, cond, _&&_}
+use lib.Dec.{leb, ltb}
+use lib.ListN.{length, getD, drop}
+use Rattle.plane.specs.Sums.{count}
+use Rattle.plane.specs.Paint.{paint, mark}
+use Rattle.plane.specs.Turns.{Painting, Kind, plain, quick, turn}
+use Rattle.plane.specs.Demand2.{Room}
+use Rattle.paint.specs.Row.{validAt, rowGives}
+use Rattle.turns.specs.TileOf.{windowOf, tileOf}
+use Rattle.turns.specs.declared.Rect.{Rect}
+use Rattle.turns.specs.declared.Mask.{Mask}
+use Rattle.turns.specs.declared.MaskLine.{MaskLine}
+use Rattle.turns.specs.declared.Clip.{Clip}
+
+-- the part of the plane where the window w and the rectangle a meet
+pub record Clipped (w a : Rect) (c : Clip) : Type 0 where
+  pub left : c .left ≡ max (w .left) (a .left)
+  pub right : c .right ≡ min (w .left + w .width) (a .left + a .width)
+  pub top : c .top ≡ max (w .top) (a .top)
+  pub bottom : c .bottom ≡ min (w .top + w .height) (a .top + a .height)
+
+-- where the mask's line for a tile's row r begins, and how many of its columns count: none past the mask
+pub record LineOf (k : Mask) (r : ℕ) (l : MaskLine) : Type 0 where
+  pub start : l .start ≡ cond (k .on && ltb r (k .height)) (r * k .stride) 0
+  pub width : l .width ≡ cond (k .on && ltb r (k .height)) (k .width) 0
+
+-- ---- a row's stretch: n pixels of the target from number `first` on, n of the source from byte `from` on, mask columns from x on
+
+pub record StretchRoom (t m : List ℕ) (first : ℕ) (src : List ℕ) (from b n : ℕ) (masked : Bool) (lines : List ℕ) (line mw x : ℕ) : Type 0 where
+  pub bytes : 1 ≤ b
+  pub target : (first + n) * b ≤ length t
+  pub source : from + n * b ≤ length src
+  pub bits : first + n ≤ 8 * length m
+  pub start : line ≤ length lines
+  pub mask : masked ≡ true → mw ≤ 8 * (length lines - line)
+  pub columns : x + n < 2 ^ 64
+
+pub record StretchPainted (t m : List ℕ) (first : ℕ) (src : List ℕ) (from b n : ℕ) (masked : Bool) (lines : List ℕ) (line mw x : ℕ) (quick : Bool) (t′ m′ : List ℕ) (r : ℕ)
+    : Type 0 where
+  pub target : t′ ≡ paint (first + n) b (λ p. leb first p && rowGives quick m first masked (drop line lines) mw x (p - first))
+      (λ p j. getD src (from + (p - first) * b + j) 0) t
+  pub map : m′ ≡ mark (first + n) (λ p. leb first p && validAt masked (drop line lines) mw (x + (p - first))) m
+  pub given : r ≡ count n (rowGives quick m first masked (drop line lines) mw x)
+
+-- ---- the turn
+
+abbrev pub kindOf : Bool → Kind
+kindOf true = quick
+kindOf false = plain
+
+-- the window w has room in the target t and the map m, the tile's pixels and its mask's lines are all there, and edges fit 64 bits
+pub record TurnRoom (t m : List ℕ) (w a : Rect) (src : List ℕ) (b : ℕ) (k : Mask) (lines : List ℕ) : Type 0 where
+  pub room : Room (windowOf w) b t m
+  pub source : a .height * a .width * b ≤ length src
+  pub stride : k .width ≤ 8 * k .stride
+  pub mask : k .height * k .stride ≤ length lines
+  pub window-right : w .left + w .width < 2 ^ 64
+  pub window-bottom : w .top + w .height < 2 ^ 64
+  pub tile-right : a .left + a .width < 2 ^ 64
+  pub tile-bottom : a .top + a .height < 2 ^ 64
+
+-- target, map and store count after the turn are what the definition of a turn says, whatever the tile's rank and the store count before
+pub record Turned (t m : List ℕ) (w a : Rect) (src : List ℕ) (b : ℕ) (k : Mask) (lines : List ℕ) (q : Bool) (t′ m′ : List ℕ) (r : ℕ) : Type 0 where
+  pub turned : (rank stored : ℕ)
+      → _≡_ {A = Painting} (record { target = t′; map = m′; stored = stored + r })
+      (turn (kindOf q) (windowOf w) b (tileOf rank a b src k lines) (record { target = t; map = m; stored = stored }))

@@ -1,0 +1,169 @@
+// A tile's turn: the rows of the tile that meet the window, each painted into its own stretch of the target.
+ghost use mathlib.Core.Path.{_≡_};
+ghost use Prim.Native.Nat.{ℕ, _+_, _*_, _<_, _≤_, min, max, _^_};
+ghost use Rattle.turns.specs.Turned.{Clipped, LineOf, StretchRoom, StretchPainted, TurnRoom, Turned};
+
+// A rectangle of the plane: a window, or a tile's. Coordinates are the signed ones plus 2^31.
+pub struct Rect {
+    pub left: usize,
+    pub top: usize,
+    pub width: usize,
+    pub height: usize,
+}
+
+// Whether a tile is masked, and its mask's columns, rows, and bytes a line.
+pub struct Mask {
+    pub on: bool,
+    pub width: usize,
+    pub height: usize,
+    pub stride: usize,
+}
+
+// The part of the plane where a window and a tile meet; right and bottom are exclusive.
+pub struct Clip {
+    pub left: usize,
+    pub right: usize,
+    pub top: usize,
+    pub bottom: usize,
+}
+
+// A line of a mask: its first byte among the lines, and how many columns it has.
+pub struct MaskLine {
+    pub start: usize,
+    pub width: usize,
+}
+
+// The greater of two numbers.
+fn greater(a: usize, b: usize) -> usize
+    ensures { λ r. ⌜ r ≡ max a b ⌝ }
+{
+    if a < b { b } else { a }
+}
+
+// The lesser of two numbers.
+fn lesser(a: usize, b: usize) -> usize
+    ensures { λ r. ⌜ r ≡ min a b ⌝ }
+{
+    if a < b { a } else { b }
+}
+
+// Where the window w and the tile's rectangle a meet.
+pub fn meeting(w: Rect, a: Rect) -> Clip
+    requires { ⌜ (w .left + w .width < 2 ^ 64) × (w .top + w .height < 2 ^ 64) × (a .left + a .width < 2 ^ 64) × (a .top + a .height < 2 ^ 64) ⌝ }
+    ensures { λ r. ⌜ Clipped w a r ⌝ }
+{
+    Clip {
+        left: greater(w.left, a.left),
+        right: lesser(w.left + w.width, a.left + a.width),
+        top: greater(w.top, a.top),
+        bottom: lesser(w.top + w.height, a.top + a.height),
+    }
+}
+
+// The line of a mask for a tile's row: none where the mask is off or has no such row.
+pub fn mask_line(k: Mask, row: usize) -> MaskLine
+    requires { ⌜ k .height * k .stride < 2 ^ 64 ⌝ }
+    ensures { λ r. ⌜ LineOf k row r ⌝ }
+{
+    if !k.on {
+        return MaskLine { start: 0, width: 0 };
+    }
+    if k.height <= row {
+        return MaskLine { start: 0, width: 0 };
+    }
+    MaskLine {
+        start: row * k.stride,
+        width: k.width,
+    }
+}
+
+// A row's part of a turn: the row's stretch, which starts in the middle of the lent target, is lent on to the row painter.
+pub fn paint_stretch(
+    target: &mut [u8],
+    map: &mut [u8],
+    first: usize,
+    src: &[u8],
+    from: usize,
+    b: usize,
+    n: usize,
+    masked: bool,
+    lines: &[u8],
+    line: usize,
+    mw: usize,
+    x: usize,
+    quick: bool,
+) -> usize
+    requires { ⌜ StretchRoom (now target) (now map) first (now src) from b n masked (now lines) line mw x ⌝ }
+    ensures { λ r. ⌜ StretchPainted (now (target .entry)) (now (map .entry)) first (now (src .entry)) from b n masked (now (lines .entry)) line mw x quick (now (target .exit)) (now (map .exit)) r ⌝ }
+{
+    let a = first * b;
+    let c = n * b;
+    let e = a + c;
+    let f = from + c;
+    paint::paint_row(
+        &mut target[a..e],
+        map,
+        first,
+        &src[from..f],
+        b,
+        n,
+        masked,
+        &lines[line..],
+        mw,
+        x,
+        quick,
+    )
+}
+
+// A tile's turn in the window w: a is the tile's rectangle, src its pixels, k its mask with its lines. The result is what it adds to the store count.
+pub fn paint_tile(
+    target: &mut [u8],
+    map: &mut [u8],
+    w: Rect,
+    a: Rect,
+    src: &[u8],
+    b: usize,
+    k: Mask,
+    lines: &[u8],
+    quick: bool,
+) -> usize
+    requires { ⌜ TurnRoom (now target) (now map) w a (now src) b k (now lines) ⌝ }
+    ensures { λ r. ⌜ Turned (now (target .entry)) (now (map .entry)) w a (now (src .entry)) b k (now (lines .entry)) quick (now (target .exit)) (now (map .exit)) r ⌝ }
+{
+    let c = meeting(w, a);
+    if c.right <= c.left {
+        return 0;
+    }
+    if c.bottom <= c.top {
+        return 0;
+    }
+    let n = c.right - c.left;
+    let x = c.left - a.left;
+    let col = c.left - w.left;
+    let end = c.bottom - w.top;
+    let mut y = c.top - w.top;
+    let mut given: usize = 0;
+    while y < end {
+        let row = y + w.top - a.top;
+        let l = mask_line(k, row);
+        let first = y * w.width + col;
+        let from = (row * a.width + x) * b;
+        given += paint_stretch(
+            target,
+            map,
+            first,
+            src,
+            from,
+            b,
+            n,
+            k.on,
+            lines,
+            l.start,
+            l.width,
+            x,
+            quick,
+        );
+        y += 1;
+    }
+    given
+}
