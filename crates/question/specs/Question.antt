@@ -1,0 +1,68 @@
+-- A question's own refusals: 20, 21, 22 of what is asked and lent, 23 over the chosen entries.
+use Prim.Native.Nat.{ℕ, _+_, _*_, _/_}
+use mathlib.Core.List.{List, [], _∷_}
+use mathlib.Core.Bool.{Bool, true, false, cond, not}
+use lib.ListN.{length}
+use lib.Dec.{eqb, ltb}
+use Rattle.format.specs.Bytes.{anyOf, shifted}
+use Rattle.format.specs.Entry.{pixelType, pixelBytes}
+use Rattle.format.specs.Checks.{Check, row, rowsBelow}
+use Rattle.format.specs.Directory.{tileCount, entryPlace}
+use Rattle.plane.specs.Tiles.{Window}
+use Rattle.tiles.specs.FileTile.{rectangle, meets}
+use Rattle.question.specs.declared.Masks.{Masks}
+use Rattle.question.specs.declared.Masks.the-variants.{NotChosen, On, Off}
+use Rattle.question.specs.declared.Frame.{Frame}
+
+-- masks are off unless asked for
+abbrev pub masksOn : Masks → Bool
+masksOn NotChosen = false
+masksOn On = true
+masksOn Off = false
+
+-- the window in plane coordinates
+abbrev pub windowOf : Frame → Window
+windowOf f = record { left = shifted (f .left); top = shifted (f .top); width = f .width; height = f .height }
+
+-- ---- ask
+
+-- refusal 20: a side not 1 to 65,536, or right or bottom edge above 2,147,483,647
+unfoldable pub windowBad : Window → Bool
+windowBad w =
+    anyOf
+    (eqb (w .width) 0 ∷
+    ltb 65536 (w .width) ∷
+    eqb (w .height) 0 ∷
+    ltb 65536 (w .height) ∷
+    ltb 4294967295 (w .left + w .width) ∷
+    ltb 4294967295 (w .top + w .height) ∷
+    [])
+
+-- refusal 21: asked type not listed, or background not one pixel long
+unfoldable pub pixelBad : ℕ → List ℕ → Bool
+pixelBad t background = anyOf (eqb (pixelBytes t) 0 ∷ not (eqb (length background) (pixelBytes t)) ∷ [])
+
+-- refusal 22: target or map too short, of these lengths
+unfoldable pub lentBad : Window → ℕ → ℕ → ℕ → Bool
+lentBad w t target map =
+    anyOf
+    (ltb target (w .height * w .width * pixelBytes t) ∷
+    ltb map ((w .height * w .width + 7) / 8) ∷
+    [])
+
+unfoldable pub askRows : Frame → List ℕ → ℕ → ℕ → List Check
+askRows f background target map =
+    row 20 0 (windowBad (windowOf f)) ∷
+    row 21 0 (pixelBad (f .«pixel_type») background) ∷
+    row 22 0 (lentBad (windowOf f) (f .«pixel_type») target map) ∷
+    []
+
+-- ---- agree
+
+-- refusal 23 at entry k: chosen, meets the window, and has another type
+unfoldable pub typeBad : List ℕ → Window → ℕ → ℕ → Bool
+typeBad bs w t e = cond (meets (rectangle bs e) w) (not (eqb (pixelType bs e) t)) false
+
+unfoldable pub agreeRows : List ℕ → (ℕ → Bool) → Frame → List Check
+agreeRows bs chosen f =
+    rowsBelow (tileCount bs) (λ k. row 23 (entryPlace bs k) (cond (chosen k) (typeBad bs (windowOf f) (f .«pixel_type») (entryPlace bs k)) false) ∷ [])

@@ -1,0 +1,1 @@
+// Selects the entries whose tiles a question asks for by its starts.

@@ -1,0 +1,1 @@
+// Paints the turn of a file's tile.
