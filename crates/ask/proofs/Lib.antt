@@ -1,0 +1,2 @@
+-- Laws of an accepted window.
+pub mod AskLaws

@@ -1,0 +1,42 @@
+use Rattle.format.proofs.Flags.{any-here, any-later, any-skip, cond-true, cond-false, is-true, is-false, not-is-true, not-is-false, eq-yes, eq-no, lt-yes′, lt-no′}
+use Rattle.format.proofs.Flags as Flags
+use borrow.Author.Tests.{eq-eqb, ne-eqb, lt-ltb, le-ltb}
+use native.Mathlib.Omega.{arith}
+use Rattle.ask.proofs.AskLaws.{sides, area-most, bytes-most}
+use mathlib.Core.Path.{_≡_, refl, sym, ap, _∙_}
+use Rattle.entries.proofs.EntryLaws.{pixel-bytes-few}
+use Rattle.question.specs.Question.{windowOf, lentBad}
+use borrow.Author.Needs.{needs}
+use Rattle.ask.proofs.lent_bad.Statement.{statement}
+use Rattle.ask.proofs.lent_bad.Tie as tie
+
+mul-area : tie.Need-mul-area
+mul-area c = omega (arith, area-most _ (sides _ (c .pre)))
+
+pixel-bytes-requires : tie.Need-pixel-bytes-requires
+pixel-bytes-requires c κs = search needs
+
+mul-if1 : tie.Need-mul-if1
+mul-if1 c = let k = c .before in let f = pixel-bytes-few (k .args .f .«pixel_type») in omega (arith, bytes-most _ (c .pixel-bytes .result) (area-most _ (sides _ (k .pre))) (omega (arith, f, c .pixel-bytes .ensures)))
+
+returns : tie.Need-returns
+unfolding lentBad
+returns c = any-here _ _ (rw (← c .before .pixel-bytes .ensures) (lt-ltb _ _ (c .if1 .taken)))
+
+add-if2 : tie.Need-add-if2
+add-if2 c = omega (arith, area-most _ (sides _ (c .before .before .pre)))
+
+returns-2 : tie.Need-returns-2
+unfolding lentBad
+returns-2 c = any-later _ _ (any-here _ _ (lt-ltb _ _ (c .if2 .taken)))
+
+returns-3 : tie.Need-returns-3
+unfolding lentBad
+returns-3 c =
+    (any-skip _ _ _ (rw (← c .before .before .pixel-bytes .ensures) (le-ltb _ _ (c .before .if1 .left)))
+    (any-skip _ _ _ (le-ltb _ _ (c .if2 .left))
+    Flags.any-none))
+
+pub lent-bad-spec : {M : Type 1} → statement M
+lent-bad-spec =
+    tie.close (tie.spec mul-area pixel-bytes-requires mul-if1 returns add-if2 returns-2 returns-3)
