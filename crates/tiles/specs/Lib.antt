@@ -1,1 +1,2 @@
 pub mod FileTile
+pub mod Painted

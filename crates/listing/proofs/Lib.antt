@@ -1,0 +1,3 @@
+-- Laws of the box and of the listing.
+pub mod Boxes
+pub mod Texts

@@ -1,0 +1,39 @@
+use Rattle.entries.proofs.ReadBack.{read-back}
+use mathlib.Core.Path.{_≡_, refl, sym, ap, _∙_}
+use native.Mathlib.Omega.{arith}
+use Rattle.listing.specs.Summary.{boundsOf}
+use borrow.Author.Needs.{needs}
+use Rattle.listing.proofs.bounds_of.Statement.{statement}
+use Rattle.listing.proofs.bounds_of.Tie as tie
+
+unshifted-requires : tie.Need-unshifted-requires
+unshifted-requires c κs = c .before .pre .left-fits (c .if1 .taken)
+
+unshifted-requires-2 : tie.Need-unshifted-requires-2
+unshifted-requires-2 c κs = c .before .before .pre .top-fits (c .before .if1 .taken)
+
+unshifted-requires-3 : tie.Need-unshifted-requires-3
+unshifted-requires-3 c κs = c .before .before .before .pre .right-fits
+
+unshifted-requires-4 : tie.Need-unshifted-requires-4
+unshifted-requires-4 c κs = c .before .before .before .before .pre .bottom-fits
+
+returns : tie.Need-returns
+unfolding boundsOf
+returns c =
+    rw (c .before .before .before .before .if1 .taken, read-back (c .before .before .before .unshifted .result) (c .before .before .before .unshifted .ok), read-back (c .before .before .unshifted2 .result) (c .before .before .unshifted2 .ok), read-back (c .before .unshifted3 .result) (c .before .unshifted3 .ok), read-back (c .unshifted4 .result) (c .unshifted4 .ok), c .before .before .before .unshifted .ensures, c .before .before .unshifted2 .ensures, c .before .unshifted3 .ensures, c .unshifted4 .ensures)
+
+returns-2 : tie.Need-returns-2
+unfolding boundsOf
+returns-2 c = rw (c .if1 .left)
+
+pub bounds-of-spec : {M : Type 1} → statement M
+bounds-of-spec =
+    tie.close
+    (tie.spec
+    unshifted-requires
+    unshifted-requires-2
+    unshifted-requires-3
+    unshifted-requires-4
+    returns
+    returns-2)

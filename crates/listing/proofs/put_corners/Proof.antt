@@ -1,0 +1,50 @@
+use native.Mathlib.Omega.{arith}
+use Rattle.text.proofs.Texts.{appended-both}
+use Rattle.listing.proofs.Texts.{signed-room}
+use Rattle.listing.specs.Listing.{boxText, wordNone}
+use borrow.Author.Needs.{needs}
+use Rattle.listing.proofs.put_corners.Statement.{statement}
+use Rattle.listing.proofs.put_corners.Tie as tie
+
+put-signed-requires : tie.Need-put-signed-requires
+put-signed-requires c κs = (c .before .pre .1 .0, c .before .pre .0 .left-fits (c .if1 .taken), omega (arith, c .before .pre .1 .1))
+
+put-coordinate-requires : tie.Need-put-coordinate-requires
+put-coordinate-requires c κs = let room = signed-room _ _ _ (c .put-signed .ensures) (c .before .before .pre .0 .left-fits (c .before .if1 .taken)) in (c .put-signed .ensures .clean, c .before .before .pre .0 .top-fits (c .before .if1 .taken), omega (arith, room, c .before .before .pre .1 .1))
+
+put-coordinate-requires-2 : tie.Need-put-coordinate-requires-2
+put-coordinate-requires-2 c κs = let room = signed-room _ _ _ (c .before .put-signed .ensures) (c .before .before .before .pre .0 .left-fits (c .before .before .if1 .taken)) in (c .put-coordinate .ensures .0 .clean, c .before .before .before .pre .0 .right-fits, omega (arith, room, c .put-coordinate .ensures .1, c .before .before .before .pre .1 .1))
+
+put-coordinate-requires-3 : tie.Need-put-coordinate-requires-3
+put-coordinate-requires-3 c κs = let room = signed-room _ _ _ (c .before .before .put-signed .ensures) (c .before .before .before .before .pre .0 .left-fits (c .before .before .before .if1 .taken)) in (c .put-coordinate2 .ensures .0 .clean, c .before .before .before .before .pre .0 .bottom-fits, omega (arith, room, c .put-coordinate2 .ensures .1, c .before .put-coordinate .ensures .1, c .before .before .before .before .pre .1 .1))
+
+returns : tie.Need-returns
+unfolding boxText
+returns c =
+    let room = signed-room _ _ _ (c .before .before .before .put-signed .ensures) (c .before .before .before .before .before .pre .0 .left-fits (c .before .before .before .before .if1 .taken)) in (
+      rw (c .before .before .before .before .if1 .taken) (appended-both _ _ _ _ _ (appended-both _ _ _ _ _ (appended-both _ _ _ _ _ (c .before .before .before .put-signed .ensures) (c .before .before .put-coordinate .ensures .0)) (c .before .put-coordinate2 .ensures .0)) (c .put-coordinate3 .ensures .0)),
+      omega (arith, room, c .put-coordinate3 .ensures .1, c .before .put-coordinate2 .ensures .1, c .before .before .put-coordinate .ensures .1),
+    )
+
+slice-aggregate-put : tie.Need-slice-aggregate-put
+slice-aggregate-put c = search needs
+
+put-requires : tie.Need-put-requires
+put-requires c κs = search needs
+
+returns-2 : tie.Need-returns-2
+unfolding boxText wordNone
+returns-2 c = (rw (c .before .before .if1 .left) (c .put .ensures), omega (arith, c .put .ensures .length-is))
+
+pub put-corners-spec : {M : Type 1} → statement M
+put-corners-spec =
+    tie.close
+    (tie.spec
+    put-signed-requires
+    put-coordinate-requires
+    put-coordinate-requires-2
+    put-coordinate-requires-3
+    returns
+    slice-aggregate-put
+    put-requires
+    returns-2)

@@ -1,0 +1,26 @@
+use native.Mathlib.Omega.{arith}
+use Rattle.text.proofs.Texts.{appended-both}
+use Rattle.text.proofs.Digits.{decimal-most}
+use Rattle.listing.specs.Listing.{line}
+use borrow.Author.Needs.{needs}
+use Rattle.listing.proofs.put_line.Statement.{statement}
+use Rattle.listing.proofs.put_line.Tie as tie
+
+put-requires : tie.Need-put-requires
+put-requires c κs = search needs
+
+put-decimal-requires : tie.Need-put-decimal-requires
+put-decimal-requires c κs = search needs
+
+push-requires : tie.Need-push-requires
+push-requires c κs = (c .put-decimal .ensures .clean, omega (arith, c .put-decimal .ensures .length-is, c .before .put .ensures .length-is, decimal-most (c .before .before .before .args .x), c .before .before .before .pre .1))
+
+returns : tie.Need-returns
+unfolding line
+returns c = (
+  appended-both _ _ _ _ _ (appended-both _ _ _ _ _ (c .before .before .put .ensures) (c .before .put-decimal .ensures)) (c .push .ensures),
+  omega (arith, c .push .ensures .length-is, c .before .put-decimal .ensures .length-is, c .before .before .put .ensures .length-is, decimal-most (c .before .before .before .before .args .x)),
+)
+
+pub put-line-spec : {M : Type 1} → statement M
+put-line-spec = tie.close (tie.spec put-requires put-decimal-requires push-requires returns)

@@ -1,0 +1,327 @@
+// Lists a file: the figures of an accepted one, the refusal of any other, as a summary and as text.
+use format::Verdict;
+use text::Text;
+ghost use mathlib.Core.Path.{_≡_};
+ghost use mathlib.Core.Bool.{false};
+ghost use mathlib.Core.List.{_∷_};
+ghost use Prim.Native.Nat.{_+_, _^_, _≤_, _<_, min, max};
+ghost use lib.ListN.{length};
+ghost use Rattle.format.specs.Bytes.{signed32, biased};
+ghost use Rattle.format.specs.Segments.{walked};
+ghost use Rattle.format.specs.Entry.{nextEntry, dimensionsBad};
+ghost use Rattle.format.specs.Directory.{tileCount};
+ghost use Rattle.format.specs.Attachments.{attachmentCount};
+ghost use Rattle.format.specs.Rules.{verdict};
+ghost use Rattle.format.specs.declared.Verdict.the-variants.{Accepted};
+ghost use Rattle.text.specs.Text.{decimal, signedDecimal, textOf, Clean, Appended};
+ghost use Rattle.listing.specs.Summary.{nearEdge, farEdge, summaryAnswer};
+ghost use Rattle.listing.specs.Listing.{nameBox, line, refusalText, listingOf};
+ghost use Rattle.listing.specs.Figures.{cornersBelow, withTile, Held, figuresOf, boundsBy, boxBy, summaryBy, textBy, Says};
+
+// The box over the tiles that are not pyramid tiles, right and bottom exclusive.
+pub enum Bounds {
+    Nothing,
+    Box {
+        left: i32,
+        top: i32,
+        right: i32,
+        bottom: i32,
+    },
+}
+
+// The figures of an accepted file.
+pub struct Summary {
+    pub bytes: u64,
+    pub segments: u64,
+    pub tiles: u64,
+    pub attachments: u64,
+    pub bounds: Bounds,
+}
+
+// What is answered to a question for a summary.
+pub enum SummaryAnswer {
+    Found(Summary),
+    Refused { number: u64, place: u64 },
+}
+
+// The box while it grows: whether there is a tile in it, and its corners plus 2^31.
+pub struct Corners {
+    pub some: bool,
+    pub left: u64,
+    pub top: u64,
+    pub right: u64,
+    pub bottom: u64,
+}
+
+// The figures with those corners.
+pub struct Figures {
+    pub bytes: u64,
+    pub segments: u64,
+    pub tiles: u64,
+    pub attachments: u64,
+    pub corners: Corners,
+}
+
+// ---- the box
+
+fn least(a: u64, b: u64) -> u64
+    ensures { λ r. ⌜ r ≡ min a b ⌝ }
+{
+    if a < b {
+        return a;
+    }
+    b
+}
+
+fn greatest(a: u64, b: u64) -> u64
+    ensures { λ r. ⌜ r ≡ max a b ⌝ }
+{
+    if a < b {
+        return b;
+    }
+    a
+}
+
+// Where the dimension at d begins, plus 2^31.
+fn near_edge(s: &[u8], d: u64) -> u64
+    requires { ⌜ d + 20 ≤ length (now s) ⌝ }
+    ensures { λ r. ⌜ r ≡ nearEdge (now (s .entry)) d ⌝ }
+{
+    fields::biased_of(fields::u32_at(s, d + 4))
+}
+
+// Where it ends, plus 2^31.
+fn far_edge(s: &[u8], d: u64) -> u64
+    requires { ⌜ d + 20 ≤ length (now s) ⌝ }
+    ensures { λ r. ⌜ r ≡ farEdge (now (s .entry)) d ⌝ }
+{
+    fields::biased_of(fields::u32_at(s, d + 4)) + fields::u32_at(s, d + 8)
+}
+
+// The box with the tile of the entry at e in it, unless that is a pyramid tile.
+fn with_tile(c: Corners, s: &[u8], e: u64) -> Corners
+    requires { ⌜ (nextEntry (now s) e ≤ length (now s)) × (dimensionsBad (now s) e ≡ false) ⌝ }
+    ensures { λ r. ⌜ r ≡ withTile (now (s .entry)) e c ⌝ }
+{
+    if entries::is_pyramid(s, e) {
+        return c;
+    }
+    let x = entries::letter_place(s, e, 88);
+    let y = entries::letter_place(s, e, 89);
+    let left = least(near_edge(s, x), c.left);
+    let top = least(near_edge(s, y), c.top);
+    let right = greatest(far_edge(s, x), c.right);
+    let bottom = greatest(far_edge(s, y), c.bottom);
+    Corners {
+        some: true,
+        left,
+        top,
+        right,
+        bottom,
+    }
+}
+
+// The box over the first n entries.
+fn corners_of(s: &[u8], n: u64) -> Corners
+    requires { ⌜ (verdict (now s) ≡ Accepted) × (n ≤ tileCount (now s)) ⌝ }
+    ensures { λ r. ⌜ r ≡ cornersBelow (now (s .entry)) n ⌝ }
+{
+    let mut c = Corners {
+        some: false,
+        left: 4294967296,
+        top: 4294967296,
+        right: 0,
+        bottom: 0,
+    };
+    let mut e = fields::u64_at(s, 84) + 160;
+    let mut k: u64 = 0;
+    while k < n {
+        c = with_tile(c, s, e);
+        e = e + 32 + 20 * entries::dimension_count(s, e);
+        k += 1;
+    }
+    c
+}
+
+// ---- the figures
+
+fn segment_count(s: &[u8]) -> u64
+    requires { ⌜ verdict (now s) ≡ Accepted ⌝ }
+    ensures { λ r. ⌜ r ≡ length (walked (now (s .entry))) ⌝ }
+{
+    let w = segments::judge_segments(s);
+    w.count
+}
+
+fn tile_count(s: &[u8]) -> u64
+    requires { ⌜ verdict (now s) ≡ Accepted ⌝ }
+    ensures { λ r. ⌜ r ≡ tileCount (now (s .entry)) ⌝ }
+{
+    let d = fields::u64_at(s, 84);
+    fields::u32_at(s, d + 32)
+}
+
+// How many attachments there are: none without an attachment directory.
+fn attachment_count(s: &[u8]) -> u64
+    requires { ⌜ verdict (now s) ≡ Accepted ⌝ }
+    ensures { λ r. ⌜ r ≡ attachmentCount (now (s .entry)) ⌝ }
+{
+    let t = fields::u64_at(s, 104);
+    if t == 0 {
+        return 0;
+    }
+    fields::u32_at(s, t + 32)
+}
+
+fn figures_of(s: &[u8]) -> Figures
+    requires { ⌜ verdict (now s) ≡ Accepted ⌝ }
+    ensures { λ r. ⌜ r ≡ figuresOf (now (s .entry)) ⌝ }
+{
+    let bytes = s.len() as u64;
+    let segments = segment_count(s);
+    let tiles = tile_count(s);
+    let attachments = attachment_count(s);
+    let corners = corners_of(s, tiles);
+    Figures {
+        bytes,
+        segments,
+        tiles,
+        attachments,
+        corners,
+    }
+}
+
+// ---- the summary
+
+// The signed number of a coordinate that is kept plus 2^31.
+fn unshifted(x: u64) -> i32
+    requires { ⌜ x < 2 ^ 32 ⌝ }
+    ensures { λ r. ⌜ r ≡ signed32 (biased x) ⌝ }
+{
+    fields::signed_of(fields::biased_of(x))
+}
+
+fn bounds_of(c: Corners) -> Bounds
+    requires { ⌜ Held c ⌝ }
+    ensures { λ r. ⌜ r ≡ boundsBy c ⌝ }
+{
+    let some = c.some;
+    if some {
+        return Bounds::Box {
+            left: unshifted(c.left),
+            top: unshifted(c.top),
+            right: unshifted(c.right),
+            bottom: unshifted(c.bottom),
+        };
+    }
+    Bounds::Nothing
+}
+
+fn summary_of(f: Figures) -> Summary
+    requires { ⌜ Held (f .corners) ⌝ }
+    ensures { λ r. ⌜ r ≡ summaryBy f ⌝ }
+{
+    let bounds = bounds_of(f.corners);
+    Summary {
+        bytes: f.bytes,
+        segments: f.segments,
+        tiles: f.tiles,
+        attachments: f.attachments,
+        bounds,
+    }
+}
+
+// The summary of a file of any size, or its refusal.
+pub fn summarize(s: &[u8]) -> SummaryAnswer
+    ensures { λ r. ⌜ r ≡ summaryAnswer (now (s .entry)) ⌝ }
+{
+    let v = judge::judge(s);
+    match v {
+        Verdict::Refused { number, place } => SummaryAnswer::Refused { number, place },
+        Verdict::Accepted => SummaryAnswer::Found(summary_of(figures_of(s))),
+    }
+}
+
+// ---- the text
+
+// The text with a line after it: a name and a number.
+fn put_line(t: Text, name: &[u8], x: u64) -> Text
+    requires { ⌜ Clean t × (t .length + length (now name) + 21 ≤ 192) ⌝ }
+    ensures { λ r. ⌜ Appended t (line (now (name .entry)) (decimal x)) r × (r .length ≤ t .length + length (now (name .entry)) + 21) ⌝ }
+{
+    let named = text::put(t, name);
+    let valued = text::put_decimal(named, x);
+    text::push(valued, 10)
+}
+
+// The text with a comma and a coordinate after it.
+fn put_coordinate(t: Text, x: u64) -> Text
+    requires { ⌜ Clean t × (x < 2 ^ 32) × (t .length + 22 ≤ 192) ⌝ }
+    ensures { λ r. ⌜ Appended t (44 ∷ signedDecimal x) r × (r .length ≤ t .length + 12) ⌝ }
+{
+    let comma = text::push(t, 44);
+    text::put_signed(comma, x)
+}
+
+// The text with the box's corners after it, or none.
+fn put_corners(t: Text, c: Corners) -> Text
+    requires { ⌜ Held c ⌝ }
+    requires { ⌜ Clean t × (t .length + 64 ≤ 192) ⌝ }
+    ensures { λ r. ⌜ Appended t (boxBy c) r × (r .length ≤ t .length + 47) ⌝ }
+{
+    let some = c.some;
+    if some {
+        let left = text::put_signed(t, c.left);
+        let top = put_coordinate(left, c.top);
+        let right = put_coordinate(top, c.right);
+        return put_coordinate(right, c.bottom);
+    }
+    text::put(t, b"none")
+}
+
+// The text with the line of the box after it.
+fn put_box(t: Text, c: Corners) -> Text
+    requires { ⌜ Held c ⌝ }
+    requires { ⌜ Clean t × (t .length + 68 ≤ 192) ⌝ }
+    ensures { λ r. ⌜ Appended t (line nameBox (boxBy c)) r ⌝ }
+{
+    let named = text::put(t, b"box=");
+    let valued = put_corners(named, c);
+    text::push(valued, 10)
+}
+
+// The lines of an accepted file.
+fn figures_text(f: Figures) -> Text
+    requires { ⌜ Held (f .corners) ⌝ }
+    ensures { λ r. ⌜ Says r (textBy f) ⌝ }
+{
+    let start = text::empty();
+    let bytes = put_line(start, b"bytes=", f.bytes);
+    let segments = put_line(bytes, b"segments=", f.segments);
+    let tiles = put_line(segments, b"tiles=", f.tiles);
+    let attachments = put_line(tiles, b"attachments=", f.attachments);
+    put_box(attachments, f.corners)
+}
+
+// The lines of a refusal.
+fn refusal_text(number: u64, place: u64) -> Text
+    ensures { λ r. ⌜ Says r (refusalText number place) ⌝ }
+{
+    let start = text::empty();
+    let refused = put_line(start, b"refused=", number);
+    put_line(refused, b"place=", place)
+}
+
+// The listing of a file of at most 65,536 bytes; what is longer is refused before all.
+pub fn list(s: &[u8]) -> Text
+    ensures { λ r. ⌜ Clean r × (textOf r ≡ listingOf (now (s .entry))) ⌝ }
+{
+    if 65536 < s.len() {
+        return refusal_text(30, 0);
+    }
+    let v = judge::judge(s);
+    match v {
+        Verdict::Refused { number, place } => refusal_text(number, place),
+        Verdict::Accepted => figures_text(figures_of(s)),
+    }
+}

@@ -1,0 +1,68 @@
+-- Every stretch that is handed out lies in the file, whatever the file and the number. Assumes nothing.
+use Prim.Native.Nat.{ℕ, _+_, _≤_}
+use mathlib.Core.Path.{_≡_, refl}
+use mathlib.Core.List.{List}
+use mathlib.Core.Bool.{Bool, true, false, cond}
+use native.Mathlib.Omega.{arith}
+use lib.ListN.{length}
+use lib.Dec.{eqb}
+use borrow.Author.Tests.{eqb-false}
+use Rattle.format.specs.File.{metadataPosition}
+use Rattle.format.specs.Entry.{filePosition}
+use Rattle.format.specs.Directory.{entryPlace}
+use Rattle.format.specs.Rules.{verdict, tileVerdict, attachmentVerdict}
+use Rattle.format.specs.Records.{span, spanIf, metadataSpan, pixelsSpan, attachmentSpan, tilePixels, tileMetadata, tileAttachment, attachmentDataSpan, attachmentData, xmlSpan, xmlAttachmentSpan, commonXml, commonAttachment}
+use Rattle.format.specs.declared.Verdict.{Verdict}
+use Rattle.format.specs.declared.Verdict.the-variants.{Accepted, Refused}
+use Rattle.format.specs.declared.Span.{Span}
+use Rattle.subblocks.proofs.PartLaws.{Laid, filled-in}
+use Rattle.judge.proofs.AcceptedFile.{described}
+use Rattle.parts.proofs.Numbered.{tile-there, attachment-there}
+
+abbrev pub Within : List ℕ → Span → Type 0
+Within bs s = s .start + s .length ≤ length bs
+
+pub span-within : (bs : List ℕ) (v : Verdict) (s : Span) → (v ≡ Accepted → Within bs s) → Within bs (spanIf v s)
+span-within bs Accepted s h = h refl
+span-within bs (Refused m p) s h = omega arith
+
+-- an answer r that is such a stretch
+pub same-within : (bs : List ℕ) (r s : Span) → r ≡ s → Within bs s → Within bs r
+same-within bs r s e h = rw e h
+
+module _ (bs : List ℕ) (n : ℕ) where
+  laid : tileVerdict bs n ≡ Accepted → Laid bs (entryPlace bs n) bs (filePosition bs (entryPlace bs n))
+  laid h = filled-in _ _ _ _ (tile-there bs n h .judged .filled)
+
+  pub pixels-within : Within bs (tilePixels bs n)
+  unfolding tilePixels pixelsSpan
+  pixels-within = span-within bs (tileVerdict bs n) _ (λ h. laid h .pixels)
+
+  pub metadata-within : Within bs (tileMetadata bs n)
+  unfolding tileMetadata metadataSpan
+  metadata-within = span-within bs (tileVerdict bs n) _ (λ h. laid h .metadata)
+
+  pub attachment-within : Within bs (tileAttachment bs n)
+  unfolding tileAttachment attachmentSpan
+  attachment-within = span-within bs (tileVerdict bs n) _ (λ h. laid h .attachment)
+
+  pub data-within : Within bs (attachmentData bs n)
+  unfolding attachmentData attachmentDataSpan
+  data-within = span-within bs (attachmentVerdict bs n) _ (λ h. let a = attachment-there bs n h .attached in omega (arith, a .room-in, a .fits))
+
+-- a stretch that is empty where m is 0
+some-within : (bs : List ℕ) (m : ℕ) (s : Span) → ((m ≡ 0 → ⊥) → Within bs s) → Within bs (cond (eqb m 0) (span 0 0) s)
+some-within bs m s h = go (eqb m 0) refl
+  where
+    go : (b : Bool) → eqb m 0 ≡ b → Within bs (cond b (span 0 0) s)
+    go true e = omega arith
+    go false e = h (eqb-false m 0 e)
+
+module _ (bs : List ℕ) where
+  pub xml-within : Within bs (commonXml bs)
+  unfolding commonXml xmlSpan
+  xml-within = span-within bs (verdict bs) _ (λ h. some-within bs (metadataPosition bs) _ (λ some. let d = described bs h some in omega (arith, d .room-in, d .fits)))
+
+  pub xml-attachment-within : Within bs (commonAttachment bs)
+  unfolding commonAttachment xmlAttachmentSpan
+  xml-attachment-within = span-within bs (verdict bs) _ (λ h. some-within bs (metadataPosition bs) _ (λ some. let d = described bs h some in omega (arith, d .room-in, d .fits)))

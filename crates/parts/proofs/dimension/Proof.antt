@@ -1,0 +1,55 @@
+use native.Mathlib.Omega.{arith}
+use mathlib.Core.Path.{sym, _∙_}
+use Rattle.format.specs.Records.{dimensionAnswer}
+use Rattle.parts.proofs.Numbered.{dimension-there}
+use Rattle.parts.proofs.Answers.{dimension-refused, dimension-found}
+use borrow.Author.Needs.{needs}
+use Rattle.parts.proofs.dimension.Statement.{statement}
+use Rattle.parts.proofs.dimension.Tie as tie
+
+dimension-refusal-requires : tie.Need-dimension-refusal-requires
+dimension-refusal-requires c κs = search needs
+
+enum-known-v : tie.Need-enum-known-v
+enum-known-v c = search needs
+
+enum-told : tie.Need-enum-told
+enum-told c = search needs
+
+entry-place-requires : tie.Need-entry-place-requires
+entry-place-requires c κs = dimension-there _ _ _ (sym (c .before .before .dimension-refusal .ensures) ∙ c .enum-told .given .1) .tile
+
+add-dimension-at : tie.Need-add-dimension-at
+add-dimension-at c = let t = dimension-there _ _ _ (sym (c .before .before .before .dimension-refusal .ensures) ∙ c .before .enum-told .given .1) in omega (arith, t .entry, t .small, c .entry-place .ensures)
+
+mul-dimension-at : tie.Need-mul-dimension-at
+mul-dimension-at c = let t = dimension-there _ _ _ (sym (c .before .before .before .dimension-refusal .ensures) ∙ c .before .enum-told .given .1) in omega (arith, t .entry, t .small, c .entry-place .ensures)
+
+add-dimension-at-2 : tie.Need-add-dimension-at-2
+add-dimension-at-2 c = let t = dimension-there _ _ _ (sym (c .before .before .before .dimension-refusal .ensures) ∙ c .before .enum-told .given .1) in omega (arith, t .entry, t .small, c .entry-place .ensures)
+
+dimension-at-requires : tie.Need-dimension-at-requires
+dimension-at-requires c κs = let t = dimension-there _ _ _ (sym (c .before .before .before .dimension-refusal .ensures) ∙ c .before .enum-told .given .1) in omega (arith, t .entry, t .small, c .entry-place .ensures)
+
+returns : tie.Need-returns
+unfolding dimensionAnswer
+returns c = dimension-refused _ _ (c .before .before .before .dimension-refusal .ensures) _ _ _ (c .before .v .given .1)
+
+returns-2 : tie.Need-returns-2
+unfolding dimensionAnswer
+returns-2 c = dimension-found _ _ (c .before .before .before .before .dimension-refusal .ensures) _ _ (c .before .before .enum-told .given .1) (rw (← c .before .entry-place .ensures) (c .dimension-at .ensures))
+
+pub dimension-spec : {M : Type 1} → statement M
+dimension-spec =
+    tie.close
+    (tie.spec
+    dimension-refusal-requires
+    enum-known-v
+    enum-told
+    entry-place-requires
+    add-dimension-at
+    mul-dimension-at
+    add-dimension-at-2
+    dimension-at-requires
+    returns
+    returns-2)

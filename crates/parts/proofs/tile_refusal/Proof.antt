@@ -1,0 +1,56 @@
+use native.Mathlib.Omega.{arith}
+use mathlib.Core.Path.{sym, _∙_}
+use denote.Ref.{now}
+use lib.Dec.{leb}
+use Rattle.format.specs.Directory.{tileCount}
+use Rattle.format.specs.Rules.{checks, verdict, tileVerdict}
+use Rattle.format.proofs.Flags.{le-yes, le-no}
+use Rattle.parts.proofs.Numbered.{refused-before, no-such, is-there}
+use borrow.Author.Needs.{needs}
+use Rattle.parts.proofs.tile_refusal.Statement.{statement}
+use Rattle.parts.proofs.tile_refusal.Tie as tie
+
+judge-requires : tie.Need-judge-requires
+judge-requires c κs = search needs
+
+enum-known-v : tie.Need-enum-known-v
+enum-known-v c = search needs
+
+enum-told : tie.Need-enum-told
+enum-told c = search needs
+
+tile-count-requires : tie.Need-tile-count-requires
+tile-count-requires c κs = sym (c .before .before .judge .ensures) ∙ c .enum-told .given .1
+
+returns : tie.Need-returns
+unfolding verdict tileVerdict
+returns c =
+    let a = c .before .before .before .before .before .before .args in
+    let bs = now (a .s) in
+    no-such (checks bs) (leb (tileCount bs) (a .n)) _ (c .before .before .before .before .judge .ensures) (c .before .before .enum-told .given .1) (le-yes _ _ _ (c .before .tile-count .ensures) (omega (arith, c .if1 .taken)))
+
+returns-2 : tie.Need-returns-2
+unfolding verdict tileVerdict
+returns-2 c =
+    let a = c .before .before .before .before .before .args in
+    let bs = now (a .s) in
+    refused-before (checks bs) (leb (tileCount bs) (a .n)) _ (c .before .before .before .judge .ensures) _ _ (c .before .v .given .1)
+
+returns-3 : tie.Need-returns-3
+unfolding verdict tileVerdict
+returns-3 c =
+    let a = c .before .before .before .before .before .before .args in
+    let bs = now (a .s) in
+    is-there (checks bs) (leb (tileCount bs) (a .n)) _ (c .before .before .before .before .judge .ensures) (c .before .before .enum-told .given .1) (le-no _ _ _ (c .before .tile-count .ensures) (omega (arith, c .if1 .left)))
+
+pub tile-refusal-spec : {M : Type 1} → statement M
+tile-refusal-spec =
+    tie.close
+    (tie.spec
+    judge-requires
+    enum-known-v
+    enum-told
+    tile-count-requires
+    returns
+    returns-2
+    returns-3)

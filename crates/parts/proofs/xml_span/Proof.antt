@@ -1,0 +1,36 @@
+use native.Mathlib.Omega.{arith}
+use mathlib.Core.Path.{_∙_}
+use borrow.Author.Tests.{eq-eqb, ne-eqb}
+use Rattle.format.specs.File.{metadataPosition}
+use Rattle.format.specs.Attachments.{xmlSize}
+use Rattle.format.specs.Records.{xmlSpan}
+use Rattle.judge.proofs.AcceptedFile.{tiled, described}
+use Rattle.parts.proofs.xml_span.Statement.{statement}
+use Rattle.parts.proofs.xml_span.Tie as tie
+
+u64-at-requires : tie.Need-u64-at-requires
+u64-at-requires c κs = omega (arith, tiled _ (c .before .pre) .long)
+
+returns : tie.Need-returns
+unfolding xmlSpan metadataPosition
+returns c = rw (← c .before .u64-at .ensures, eq-eqb _ _ (c .if1 .taken))
+
+add-start : tie.Need-add-start
+unfolding metadataPosition
+add-start c = let e = c .before .u64-at .ensures in let d = described _ (c .before .before .before .pre) (λ z. c .if1 .left (e ∙ z)) in omega (arith, d .room-in, d .fits, tiled _ (c .before .before .before .pre) .small)
+
+add-u32-at : tie.Need-add-u32-at
+unfolding metadataPosition
+add-u32-at c = let e = c .before .u64-at .ensures in let d = described _ (c .before .before .before .pre) (λ z. c .if1 .left (e ∙ z)) in omega (arith, d .room-in, d .fits, tiled _ (c .before .before .before .pre) .small)
+
+u32-at-requires : tie.Need-u32-at-requires
+unfolding metadataPosition
+u32-at-requires c κs = let e = c .before .u64-at .ensures in let d = described _ (c .before .before .before .pre) (λ z. c .if1 .left (e ∙ z)) in omega (arith, d .room-in, d .fits, tiled _ (c .before .before .before .pre) .small)
+
+returns-2 : tie.Need-returns-2
+unfolding xmlSpan metadataPosition xmlSize
+returns-2 c = rw (← c .before .before .u64-at .ensures, ne-eqb _ _ (c .before .if1 .left), ← c .u32-at .ensures .0)
+
+pub xml-span-spec : {M : Type 1} → statement M
+xml-span-spec =
+    tie.close (tie.spec u64-at-requires returns add-start add-u32-at u32-at-requires returns-2)

@@ -1,0 +1,377 @@
+// What a user is handed out of a file of any bytes: records and parts of it by number. Each question judges the whole file first.
+use format::DimensionAnswer;
+use format::Span;
+use format::TileAnswer;
+use format::Verdict;
+ghost use mathlib.Core.Path.{_≡_};
+ghost use Rattle.format.specs.Bytes.{partOf};
+ghost use Rattle.format.specs.File.{metadataPosition, attachmentDirectoryPosition};
+ghost use Rattle.format.specs.Entry.{filePosition};
+ghost use Rattle.format.specs.Directory.{tileCount, entryPlace};
+ghost use Rattle.format.specs.Attachments.{attachmentCount, attachmentEntry, attachmentPosition};
+ghost use Rattle.format.specs.Rules.{verdict, tileVerdict, attachmentVerdict};
+ghost use Rattle.format.specs.Records.{dimensionVerdict, tileAnswer, dimensionAnswer, tilePixels, tileMetadata, tileAttachment, attachmentDataSpan, attachmentData, xmlSpan, xmlAttachmentSpan, commonXml, commonAttachment};
+ghost use Rattle.format.specs.declared.Verdict.the-variants.{Accepted};
+
+// ---- tiles: entries of the sub-block directory, counted from 0
+
+// How many tiles an accepted file has.
+fn tile_count(s: &[u8]) -> u64
+    requires { ⌜ verdict (now s) ≡ Accepted ⌝ }
+    ensures { λ r. ⌜ r ≡ tileCount (now (s .entry)) ⌝ }
+{
+    fields::u32_at(s, fields::u64_at(s, 84) + 32)
+}
+
+// The refusal of the file, or 24 where there is no tile n.
+pub fn tile_refusal(s: &[u8], n: u64) -> Verdict
+    ensures { λ r. ⌜ r ≡ tileVerdict (now (s .entry)) n ⌝ }
+{
+    let v = judge::judge(s);
+    match v {
+        Verdict::Refused { number, place } => Verdict::Refused { number, place },
+        Verdict::Accepted => {
+            if tile_count(s) <= n {
+                return Verdict::Refused {
+                    number: 24,
+                    place: 0,
+                };
+            }
+            Verdict::Accepted
+        }
+    }
+}
+
+// Where the entry of tile n stands.
+fn entry_place(s: &[u8], n: u64) -> u64
+    requires { ⌜ tileVerdict (now s) n ≡ Accepted ⌝ }
+    ensures { λ r. ⌜ r ≡ entryPlace (now (s .entry)) n ⌝ }
+{
+    let mut e = fields::u64_at(s, 84) + 160;
+    let mut k: u64 = 0;
+    while k < n {
+        e = e + 32 + 20 * entries::dimension_count(s, e);
+        k += 1;
+    }
+    e
+}
+
+// Where the sub-block of tile n stands, whose entry is at e.
+fn sub_block_place(s: &[u8], n: u64, e: u64) -> u64
+    requires { ⌜ (tileVerdict (now s) n ≡ Accepted) × (e ≡ entryPlace (now s) n) ⌝ }
+    ensures { λ r. ⌜ r ≡ filePosition (now (s .entry)) e ⌝ }
+{
+    fields::u64_at(s, e + 6)
+}
+
+// The tile record of number n.
+pub fn tile(s: &[u8], n: u64) -> TileAnswer
+    ensures { λ r. ⌜ r ≡ tileAnswer (now (s .entry)) n ⌝ }
+{
+    let v = tile_refusal(s, n);
+    match v {
+        Verdict::Refused { number, place } => TileAnswer::Refused { number, place },
+        Verdict::Accepted => {
+            let e = entry_place(s, n);
+            let q = sub_block_place(s, n, e);
+            TileAnswer::Found(subblocks::tile_at(n, s, e, s, q))
+        }
+    }
+}
+
+// The stretch of the pixels of tile n.
+pub fn tile_pixels_span(s: &[u8], n: u64) -> Span
+    ensures { λ r. ⌜ r ≡ tilePixels (now (s .entry)) n ⌝ }
+{
+    let v = tile_refusal(s, n);
+    match v {
+        Verdict::Refused {
+            number: _,
+            place: _,
+        } => Span {
+            start: 0,
+            length: 0,
+        },
+        Verdict::Accepted => {
+            let e = entry_place(s, n);
+            let q = sub_block_place(s, n, e);
+            subblocks::pixels_span(s, e, s, q)
+        }
+    }
+}
+
+// The pixels of tile n: the very bytes of the lent file.
+pub fn tile_pixels(s: &[u8], n: u64) -> &[u8]
+    ensures { λ r. ⌜ now r ≡ partOf (now (s .entry)) (tilePixels (now (s .entry)) n .start) (tilePixels (now (s .entry)) n .length) ⌝ }
+{
+    let view = tile_pixels_span(s, n);
+    let start = view.start;
+    let length = view.length;
+    fields::part(s, start, length)
+}
+
+// The stretch of the metadata of tile n.
+pub fn tile_metadata_span(s: &[u8], n: u64) -> Span
+    ensures { λ r. ⌜ r ≡ tileMetadata (now (s .entry)) n ⌝ }
+{
+    let v = tile_refusal(s, n);
+    match v {
+        Verdict::Refused {
+            number: _,
+            place: _,
+        } => Span {
+            start: 0,
+            length: 0,
+        },
+        Verdict::Accepted => {
+            let e = entry_place(s, n);
+            let q = sub_block_place(s, n, e);
+            subblocks::metadata_span(s, e, s, q)
+        }
+    }
+}
+
+// The metadata of tile n.
+pub fn tile_metadata(s: &[u8], n: u64) -> &[u8]
+    ensures { λ r. ⌜ now r ≡ partOf (now (s .entry)) (tileMetadata (now (s .entry)) n .start) (tileMetadata (now (s .entry)) n .length) ⌝ }
+{
+    let view = tile_metadata_span(s, n);
+    let start = view.start;
+    let length = view.length;
+    fields::part(s, start, length)
+}
+
+// The stretch of the attachment of tile n.
+pub fn tile_attachment_span(s: &[u8], n: u64) -> Span
+    ensures { λ r. ⌜ r ≡ tileAttachment (now (s .entry)) n ⌝ }
+{
+    let v = tile_refusal(s, n);
+    match v {
+        Verdict::Refused {
+            number: _,
+            place: _,
+        } => Span {
+            start: 0,
+            length: 0,
+        },
+        Verdict::Accepted => {
+            let e = entry_place(s, n);
+            let q = sub_block_place(s, n, e);
+            subblocks::attachment_span(s, e, s, q)
+        }
+    }
+}
+
+// The attachment of tile n.
+pub fn tile_attachment(s: &[u8], n: u64) -> &[u8]
+    ensures { λ r. ⌜ now r ≡ partOf (now (s .entry)) (tileAttachment (now (s .entry)) n .start) (tileAttachment (now (s .entry)) n .length) ⌝ }
+{
+    let view = tile_attachment_span(s, n);
+    let start = view.start;
+    let length = view.length;
+    fields::part(s, start, length)
+}
+
+// ---- dimensions of a tile, counted from 0
+
+// The refusal of the file, or 24 where there is no tile n or no dimension k of it.
+pub fn dimension_refusal(s: &[u8], n: u64, k: u64) -> Verdict
+    ensures { λ r. ⌜ r ≡ dimensionVerdict (now (s .entry)) n k ⌝ }
+{
+    let v = tile_refusal(s, n);
+    match v {
+        Verdict::Refused { number, place } => Verdict::Refused { number, place },
+        Verdict::Accepted => {
+            if entries::dimension_count(s, entry_place(s, n)) <= k {
+                return Verdict::Refused {
+                    number: 24,
+                    place: 0,
+                };
+            }
+            Verdict::Accepted
+        }
+    }
+}
+
+// The dimension record of dimension k of tile n.
+pub fn dimension(s: &[u8], n: u64, k: u64) -> DimensionAnswer
+    ensures { λ r. ⌜ r ≡ dimensionAnswer (now (s .entry)) n k ⌝ }
+{
+    let v = dimension_refusal(s, n, k);
+    match v {
+        Verdict::Refused { number, place } => DimensionAnswer::Refused { number, place },
+        Verdict::Accepted => {
+            let e = entry_place(s, n);
+            DimensionAnswer::Found(entries::dimension_at(s, e + 32 + 20 * k))
+        }
+    }
+}
+
+// ---- attachments: entries of the attachment directory, counted from 0
+
+// How many attachments an accepted file has.
+fn attachment_count(s: &[u8]) -> u64
+    requires { ⌜ verdict (now s) ≡ Accepted ⌝ }
+    ensures { λ r. ⌜ r ≡ attachmentCount (now (s .entry)) ⌝ }
+{
+    let t = fields::u64_at(s, 104);
+    if t == 0 {
+        return 0;
+    }
+    fields::u32_at(s, t + 32)
+}
+
+// The refusal of the file, or 24 where there is no attachment n.
+pub fn attachment_refusal(s: &[u8], n: u64) -> Verdict
+    ensures { λ r. ⌜ r ≡ attachmentVerdict (now (s .entry)) n ⌝ }
+{
+    let v = judge::judge(s);
+    match v {
+        Verdict::Refused { number, place } => Verdict::Refused { number, place },
+        Verdict::Accepted => {
+            if attachment_count(s) <= n {
+                return Verdict::Refused {
+                    number: 24,
+                    place: 0,
+                };
+            }
+            Verdict::Accepted
+        }
+    }
+}
+
+// Where attachment n stands.
+fn attachment_place(s: &[u8], n: u64) -> u64
+    requires { ⌜ attachmentVerdict (now s) n ≡ Accepted ⌝ }
+    ensures { λ r. ⌜ r ≡ attachmentPosition (now (s .entry)) (attachmentEntry (attachmentDirectoryPosition (now (s .entry))) n) ⌝ }
+{
+    let e = fields::u64_at(s, 104) + 288 + 128 * n;
+    fields::u64_at(s, e + 12)
+}
+
+// The stretch of the data of attachment n, which stands at q.
+fn data_span(s: &[u8], n: u64, q: u64) -> Span
+    requires { ⌜ (attachmentVerdict (now s) n ≡ Accepted) × (q ≡ attachmentPosition (now s) (attachmentEntry (attachmentDirectoryPosition (now s)) n)) ⌝ }
+    ensures { λ r. ⌜ r ≡ attachmentDataSpan (now (s .entry)) q ⌝ }
+{
+    let start = q + 288;
+    let length = fields::u32_at(s, q + 32);
+    Span { start, length }
+}
+
+// The stretch of the data of attachment n.
+pub fn attachment_data_span(s: &[u8], n: u64) -> Span
+    ensures { λ r. ⌜ r ≡ attachmentData (now (s .entry)) n ⌝ }
+{
+    let v = attachment_refusal(s, n);
+    match v {
+        Verdict::Refused {
+            number: _,
+            place: _,
+        } => Span {
+            start: 0,
+            length: 0,
+        },
+        Verdict::Accepted => data_span(s, n, attachment_place(s, n)),
+    }
+}
+
+// The data of attachment n.
+pub fn attachment_data(s: &[u8], n: u64) -> &[u8]
+    ensures { λ r. ⌜ now r ≡ partOf (now (s .entry)) (attachmentData (now (s .entry)) n .start) (attachmentData (now (s .entry)) n .length) ⌝ }
+{
+    let view = attachment_data_span(s, n);
+    let start = view.start;
+    let length = view.length;
+    fields::part(s, start, length)
+}
+
+// ---- the metadata segment. What is here is refused exactly where the file is, by judge::judge; without that segment it is empty and not refused.
+
+// The stretch of the XML of an accepted file.
+fn xml_span(s: &[u8]) -> Span
+    requires { ⌜ verdict (now s) ≡ Accepted ⌝ }
+    ensures { λ r. ⌜ r ≡ xmlSpan (now (s .entry)) (metadataPosition (now (s .entry))) ⌝ }
+{
+    let m = fields::u64_at(s, 92);
+    if m == 0 {
+        return Span {
+            start: 0,
+            length: 0,
+        };
+    }
+    let start = m + 288;
+    let length = fields::u32_at(s, m + 32);
+    Span { start, length }
+}
+
+// The stretch of the attachment of an accepted file, behind the XML.
+fn xml_attachment_span(s: &[u8]) -> Span
+    requires { ⌜ verdict (now s) ≡ Accepted ⌝ }
+    ensures { λ r. ⌜ r ≡ xmlAttachmentSpan (now (s .entry)) (metadataPosition (now (s .entry))) ⌝ }
+{
+    let m = fields::u64_at(s, 92);
+    if m == 0 {
+        return Span {
+            start: 0,
+            length: 0,
+        };
+    }
+    let start = m + 288 + fields::u32_at(s, m + 32);
+    let length = fields::u32_at(s, m + 36);
+    Span { start, length }
+}
+
+// The stretch of the common XML.
+pub fn common_xml_span(s: &[u8]) -> Span
+    ensures { λ r. ⌜ r ≡ commonXml (now (s .entry)) ⌝ }
+{
+    let v = judge::judge(s);
+    match v {
+        Verdict::Refused {
+            number: _,
+            place: _,
+        } => Span {
+            start: 0,
+            length: 0,
+        },
+        Verdict::Accepted => xml_span(s),
+    }
+}
+
+// The common XML.
+pub fn common_xml(s: &[u8]) -> &[u8]
+    ensures { λ r. ⌜ now r ≡ partOf (now (s .entry)) (commonXml (now (s .entry)) .start) (commonXml (now (s .entry)) .length) ⌝ }
+{
+    let view = common_xml_span(s);
+    let start = view.start;
+    let length = view.length;
+    fields::part(s, start, length)
+}
+
+// The stretch of the common XML's attachment.
+pub fn common_attachment_span(s: &[u8]) -> Span
+    ensures { λ r. ⌜ r ≡ commonAttachment (now (s .entry)) ⌝ }
+{
+    let v = judge::judge(s);
+    match v {
+        Verdict::Refused {
+            number: _,
+            place: _,
+        } => Span {
+            start: 0,
+            length: 0,
+        },
+        Verdict::Accepted => xml_attachment_span(s),
+    }
+}
+
+// The common XML's attachment.
+pub fn common_attachment(s: &[u8]) -> &[u8]
+    ensures { λ r. ⌜ now r ≡ partOf (now (s .entry)) (commonAttachment (now (s .entry)) .start) (commonAttachment (now (s .entry)) .length) ⌝ }
+{
+    let view = common_attachment_span(s);
+    let start = view.start;
+    let length = view.length;
+    fields::part(s, start, length)
+}

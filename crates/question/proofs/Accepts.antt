@@ -1,0 +1,52 @@
+-- A call is accepted exactly where no refusal is given: not one of the file's own, nor 20, 21, 22, nor 23 at an entry. Assumes nothing.
+use Prim.Native.Nat.{ℕ, _<_, _≤_}
+use mathlib.Core.Path.{_≡_, _∙_}
+use mathlib.Core.List.{List, _++_}
+use mathlib.Core.Bool.{false, cond}
+use borrow.Author.Tests.{ltb-false}
+use Rattle.format.specs.Checks.{first}
+use Rattle.format.specs.Directory.{tileCount, entryPlace, directoryBad}
+use Rattle.format.specs.Rules.{checks, verdict}
+use Rattle.format.specs.declared.Verdict.the-variants.{Accepted}
+use Rattle.format.proofs.Below.{none}
+use Rattle.format.proofs.Firsts.{first-both, first-pass, passed}
+use Rattle.format.proofs.FileRows.{directory-ok}
+use Rattle.format.proofs.Acceptance.{verdict-parts}
+use Rattle.question.specs.Question.{windowBad, pixelBad, lentBad, askRows, typeBad, agreeRows}
+use Rattle.question.specs.Call.{Asked, chosen, callVerdict, askedWindow}
+use Rattle.question.proofs.Agreeing.{agree-ok, agree-accepted}
+
+-- the lent target and map have these lengths
+pub record Accepts (a : Asked) (target map : ℕ) : Type 0 where
+  pub file : first (checks (a .file)) ≡ Accepted
+  pub window : windowBad (askedWindow a) ≡ false
+  pub pixel : pixelBad (a .frame .«pixel_type») (a .background) ≡ false
+  pub lent : lentBad (askedWindow a) (a .frame .«pixel_type») target map ≡ false
+  pub agree : (k : ℕ) → k < tileCount (a .file)
+      → cond (chosen a k) (typeBad (a .file) (askedWindow a) (a .frame .«pixel_type») (entryPlace (a .file) k)) false ≡ false
+
+module _ (a : Asked) (target map : ℕ) where
+  pub call-ok : callVerdict a target map ≡ Accepted → Accepts a target map
+  unfolding callVerdict askRows
+  call-ok e =
+      let whole = first-both (checks (a .file)) (askRows (a .frame) (a .background) target map ++ agreeRows (a .file) (chosen a) (a .frame)) e in
+      let asked = first-both (askRows (a .frame) (a .background) target map) (agreeRows (a .file) (chosen a) (a .frame)) (whole .1) in
+      let g = passed (askRows (a .frame) (a .background) target map) (asked .0) in
+      record {
+        file = whole .0;
+        window = g 0;
+        pixel = g 1;
+        lent = g 2;
+        agree = agree-ok (a .file) (chosen a) (a .frame) (asked .1);
+      }
+
+  pub call-accepted : Accepts a target map → callVerdict a target map ≡ Accepted
+  unfolding callVerdict askRows
+  call-accepted p =
+      first-pass (checks (a .file)) _ (p .file)
+      ∙ (rw (p .window, p .pixel, p .lent) (agree-accepted (a .file) (chosen a) (a .frame) (p .agree)))
+
+-- an accepted file has at most 4,096 entries
+pub few-tiles : (bs : List ℕ) → first (checks bs) ≡ Accepted → tileCount bs ≤ 4096
+unfolding verdict tileCount directoryBad
+few-tiles bs e = ltb-false _ _ (none _ (directory-ok bs (verdict-parts bs e .directory) .0) 2)

@@ -1,0 +1,98 @@
+-- The rectangle of an entry's tile: its bounds, when it meets a window, and that a tile gives no pixel of a window that it does not meet. Assumes nothing.
+use mathlib.Core.Path.{_≡_, _∙_}
+use Prim.Native.Nat.{ℕ, _+_, _^_, _≤_, _<_}
+use native.Mathlib.Nat.{div-lt-iff-lt-mul, mod-lt}
+use native.Mathlib.Omega.{arith}
+use mathlib.Core.List.{List}
+use mathlib.Core.Bool.{Bool, true, false, _&&_, and-false, true≢false}
+use lib.Dec.{leb, ltb}
+use lib.ListN.{length}
+use borrow.Author.Tests.{lt-ltb, le-ltb, leb-true, ltb-true}
+use Rattle.format.specs.Bytes.{biased}
+use Rattle.format.specs.Entry.{letterPlace}
+use Rattle.format.proofs.Below.{and-both}
+use Rattle.entries.proofs.EntryLaws.{dimensions-ok}
+use Rattle.subblocks.specs.Judged.{Listed}
+use Rattle.plane.specs.Tiles.{Window, area, colOf, rowOf, givesAt}
+use Rattle.plane.proofs.Tests.{by-bool}
+use Rattle.tiles.specs.FileTile.{rectangle, covers, meets, tileOf}
+
+pub biased-fits : (x : ℕ) → biased x < 2 ^ 32
+unfolding biased
+biased-fits x = omega arith
+
+-- ---- X and Y lie in the file
+
+pub x-in : (bs : List ℕ) (e : ℕ) → Listed bs e → letterPlace bs e 88 + 20 ≤ length bs
+x-in bs e l = omega (arith, l .entry, dimensions-ok bs e (l .dimensions) .x .within)
+
+pub y-in : (bs : List ℕ) (e : ℕ) → Listed bs e → letterPlace bs e 89 + 20 ≤ length bs
+y-in bs e l = omega (arith, l .entry, dimensions-ok bs e (l .dimensions) .y .within)
+
+-- ---- bounds
+
+pub record Edges (a : Window) : Type 0 where
+  pub right : a .left + a .width < 2 ^ 32
+  pub bottom : a .top + a .height < 2 ^ 32
+  pub wide : 1 ≤ a .width
+  pub high : 1 ≤ a .height
+
+pub rectangle-edges : (bs : List ℕ) (e : ℕ) → Listed bs e → Edges (rectangle bs e)
+unfolding rectangle
+rectangle-edges bs e l =
+    let p = dimensions-ok bs e (l .dimensions) in
+    record { right = p .x-sized .end; bottom = p .y-sized .end; wide = p .x-sized .size-some; high = p .y-sized .size-some }
+
+-- of the rectangle that was read
+pub read-edges : (bs : List ℕ) (e : ℕ) (a : Window) → Listed bs e → a ≡ rectangle bs e → Edges a
+read-edges bs e a l h = rw h (rectangle-edges bs e l)
+
+-- ---- two rectangles that meet, and two that do not
+
+module _ (a w : Window) where
+  pub left-of : a .left + a .width ≤ w .left → false ≡ meets a w
+  unfolding meets
+  left-of h = rw (le-ltb (w .left) (a .left + a .width) h)
+
+  pub right-of : w .left + w .width ≤ a .left → false ≡ meets a w
+  unfolding meets
+  right-of h = rw (le-ltb (a .left) (w .left + w .width) h, and-false)
+
+  pub above : a .top + a .height ≤ w .top → false ≡ meets a w
+  unfolding meets
+  above h = rw (le-ltb (w .top) (a .top + a .height) h, and-false)
+
+  pub under : w .top + w .height ≤ a .top → false ≡ meets a w
+  unfolding meets
+  under h = rw (le-ltb (a .top) (w .top + w .height) h, and-false, and-false)
+
+  pub meeting : w .left < a .left + a .width → a .left < w .left + w .width → w .top < a .top + a .height → a .top < w .top + w .height → true ≡ meets a w
+  unfolding meets
+  meeting h i j k =
+      rw (lt-ltb (w .left) (a .left + a .width) h, lt-ltb (a .left) (w .left + w .width) i, lt-ltb (w .top) (a .top + a .height) j, lt-ltb (a .top) (w .top + w .height) k)
+
+-- ---- off the window
+
+-- a rectangle that covers a pixel of the window meets it
+covers-meets : (a w : Window) (p : ℕ) → 1 ≤ w .width → p < area w → covers a (colOf w p) (rowOf w p) ≡ true → true ≡ meets a w
+unfolding covers
+covers-meets a w p h l e =
+    let both = and-both (leb (a .left) (colOf w p) && ltb (colOf w p) (a .left + a .width)) _ e in
+    let col = and-both (leb (a .left) (colOf w p)) _ (both .0) in
+    let row = and-both (leb (a .top) (rowOf w p)) _ (both .1) in
+    let left = leb-true (a .left) (colOf w p) (col .0) in
+    let right = ltb-true (colOf w p) (a .left + a .width) (col .1) in
+    let top = leb-true (a .top) (rowOf w p) (row .0) in
+    let bottom = ltb-true (rowOf w p) (a .top + a .height) (row .1) in
+    let x = mod-lt p h in
+    let y = div-lt-iff-lt-mul h .1 l in
+    meeting a w (omega arith) (omega arith) (omega arith) (omega arith)
+
+-- a tile that does not meet the window gives none of its pixels
+pub gives-none : (bs : List ℕ) (on : Bool) (k e q : ℕ) (w : Window) → meets (rectangle bs e) w ≡ false → 1 ≤ w .width → (p : ℕ) → p < area w
+    → givesAt w (tileOf bs on k e q) p ≡ false
+unfolding tileOf
+gives-none bs on k e q w m h p l =
+    by-bool (covers (rectangle bs e) (colOf w p) (rowOf w p))
+    (λ c. absurd (true≢false (covers-meets (rectangle bs e) w p h l c ∙ m)))
+    (λ c. rw c)

@@ -1,0 +1,54 @@
+-- `tiles::rank_of` meets its contract.
+use borrow.Author.Needs.{needs}
+use native.Mathlib.Omega.{arith}
+use Rattle.format.proofs.Flags.{is-true, is-false}
+use Rattle.entries.proofs.EntryLaws.{letter-placed}
+use Rattle.tiles.specs.FileTile.{rankOf}
+use Rattle.tiles.proofs.rank_of.Statement.{statement}
+use Rattle.tiles.proofs.rank_of.Tie as tie
+
+holds-letter-requires : tie.Need-holds-letter-requires
+holds-letter-requires c κs = search needs
+
+letter-place-requires : tie.Need-letter-place-requires
+letter-place-requires c κs = search needs
+
+start-at-requires : tie.Need-start-at-requires
+start-at-requires c κs =
+    let h = c .before .before in
+    let p = letter-placed _ _ 77 (is-true _ _ (h .holds-letter .ensures) (c .before .if1 .taken)) in
+    omega (arith, h .before .before .pre .0 .entry, p .within, c .letter-place .ensures)
+
+add-result : tie.Need-add-result
+add-result c = search needs
+
+mul-result : tie.Need-mul-result
+mul-result c = search needs
+
+add-result-2 : tie.Need-add-result-2
+add-result-2 c = search needs
+
+returns : tie.Need-returns
+unfolding rankOf
+returns c =
+    let h = c .before .before .before in (
+      rw (is-true _ _ (h .holds-letter .ensures) (c .before .before .if1 .taken), ← c .before .letter-place .ensures, ← c .start-at .ensures .0),
+      omega (arith, c .start-at .ensures .1, h .before .before .pre .1),
+    )
+
+returns-2 : tie.Need-returns-2
+unfolding rankOf
+returns-2 c = (rw (is-false _ _ (c .before .holds-letter .ensures) (c .if1 .left)), search needs)
+
+pub rank-of-spec : {M : Type 1} → statement M
+rank-of-spec =
+    tie.close
+    (tie.spec
+    holds-letter-requires
+    letter-place-requires
+    start-at-requires
+    add-result
+    mul-result
+    add-result-2
+    returns
+    returns-2)

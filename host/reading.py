@@ -1,0 +1,204 @@
+"""The listing of paper 01, read straight from its text and apart from the crates.
+
+As a program it lists standard input. It is plain on purpose: the paper's sentences in their order.
+"""
+import struct
+import sys
+
+NAMES = [b"ZISRAWFILE", b"ZISRAWDIRECTORY", b"ZISRAWSUBBLOCK", b"ZISRAWMETADATA", b"ZISRAWATTACH",
+         b"ZISRAWATTDIR", b"DELETED"]
+FILE, DIRECTORY, SUBBLOCK, METADATA, ATTACH, ATTDIR, DELETED = NAMES
+BYTES_A_PIXEL = {0: 1, 1: 2, 2: 4, 3: 3, 4: 6, 8: 12, 9: 4, 10: 8, 11: 24}
+MARKER = b"<DataFormat>CHUNKCONTAINER</DataFormat>"
+MASK = bytes.fromhex("67EAE3CBFC5B2B49A16AECE378031448")
+HEADER = 32
+
+
+class Refused(Exception):
+    def __init__(self, number, place):
+        super().__init__(number, place)
+        self.number, self.place = number, place
+
+
+def refuse(given, number, place):
+    if given:
+        raise Refused(number, place)
+
+
+class Segment:
+    def __init__(self, name, at, allocated, used):
+        self.name, self.at, self.body = name, at, at + HEADER
+        self.room = used if used != 0 else allocated
+
+
+class Reading:
+    """One file's reading. Raises Refused, or holds the figures of the listing."""
+
+    def __init__(self, file):
+        self.file = file
+        self.segments = {}  # by position
+        self.tiles = []     # (X, Y) as (start, size, stored size)
+        self.attachments = 0
+        self.walk()
+        directory, metadata, attachments = self.file_segment()
+        self.directory(directory)
+        if metadata is not None:
+            self.metadata(metadata)
+        if attachments is not None:
+            self.attachment_directory(attachments)
+
+    def int(self, at):
+        return struct.unpack_from("<i", self.file, at)[0]
+
+    def long(self, at):
+        return struct.unpack_from("<q", self.file, at)[0]
+
+    def named(self, position, name):
+        """The walked segment of that kind at that position, or None."""
+        segment = self.segments.get(position)
+        return segment if segment is not None and segment.name == name else None
+
+    def walk(self):
+        length = len(self.file)
+        refuse(length == 0 or length % 32 != 0 or length > 2**40, 1, 0)
+        at = 0
+        while at < length:
+            refuse(len(self.segments) == 8192, 4, at)
+            name = self.file[at:at + 16].rstrip(b"\0")
+            refuse(name not in NAMES, 2, at)
+            allocated, used = self.long(at + 16), self.long(at + 24)
+            refuse(allocated < 0 or allocated % 32 != 0, 3, at)
+            refuse(used < 0 or used > allocated, 3, at)
+            refuse(at + HEADER + allocated > length, 3, at)
+            segment = Segment(name, at, allocated, used)
+            refuse((name == FILE) != (at == 0), 5, at)
+            refuse(name == FILE and segment.room < 80, 5, at)
+            self.segments[at] = segment
+            at += HEADER + allocated
+
+    def file_segment(self):
+        body = HEADER
+        refuse(self.int(body) != 1, 6, 0)
+        refuse(self.int(body + 48) != 0, 7, 0)
+        refuse(self.int(body + 68) != 0, 8, 0)
+        found = []
+        for field, name in ((52, DIRECTORY), (60, METADATA), (72, ATTDIR)):
+            position = self.long(body + field)
+            segment = self.named(position, name)
+            none = position == 0 and name != DIRECTORY
+            refuse(segment is None and not none, 9, body + field)
+            found.append(segment)
+        return found
+
+    def directory(self, segment):
+        refuse(segment.room < 128, 10, segment.at)
+        count = self.int(segment.body)
+        refuse(count < 0 or count > 4096, 10, segment.at)
+        end = segment.body + segment.room
+        at = segment.body + 128
+        for _ in range(count):
+            refuse(at + 32 > end, 10, segment.at)
+            dimensions = self.int(at + 28)
+            refuse(self.file[at:at + 2] != b"DV" or not 1 <= dimensions <= 16, 11, at)
+            length = 32 + 20 * dimensions
+            refuse(at + length > end, 10, segment.at)
+            self.entry(at, dimensions, length)
+            at += length
+
+    def entry(self, at, count, length):
+        x, y = self.dimensions(at, count)
+        pixel_type = self.int(at + 2)
+        refuse(pixel_type not in BYTES_A_PIXEL, 12, at)
+        refuse(self.int(at + 18) != 0, 13, at)
+        refuse(self.int(at + 14) != 0, 7, at)
+        block = self.named(self.long(at + 6), SUBBLOCK)
+        refuse(block is None, 14, at)
+        fixed = max(256, 48 + 20 * count)
+        refuse(fixed > block.room, 15, block.at)
+        entry, copy = self.file[at:at + length], self.file[block.body + 16:block.body + 16 + length]
+        refuse(entry[:23] + entry[28:] != copy[:23] + copy[28:], 15, block.at)
+        metadata, attachment, data = self.int(block.body), self.int(block.body + 4), self.long(block.body + 8)
+        refuse(metadata < 0 or attachment < 0 or data < 0, 16, block.at)
+        refuse(fixed + metadata + data + attachment > block.room, 16, block.at)
+        refuse(data != x[2] * y[2] * BYTES_A_PIXEL[pixel_type], 16, block.at)
+        start = block.body + fixed
+        if MARKER in self.file[start:start + metadata]:
+            start += metadata + data
+            self.chunks(start, start + attachment)
+        self.tiles.append((x, y))
+
+    def dimensions(self, at, count):
+        """X and Y of a well formed entry, each as (start, size, stored size)."""
+        seen = {}
+        for place in range(at + 32, at + 32 + 20 * count, 20):
+            letter = self.file[place:place + 4]
+            refuse(not 65 <= letter[0] <= 90 or letter[1:] != b"\0\0\0", 11, at)
+            refuse(letter in seen, 11, at)
+            start, size, stored = self.int(place + 4), self.int(place + 8), self.int(place + 16)
+            refuse(start + size > 2**31 - 1, 11, at)
+            refuse(stored < 0, 11, at)
+            stored = stored if stored != 0 else size
+            if letter in (b"X\0\0\0", b"Y\0\0\0"):
+                refuse(size < 1, 11, at)
+            else:
+                refuse(size != 1 or stored != 1, 11, at)
+            seen[letter] = (start, size, stored)
+        order = [letter for letter in seen if letter[:1] in b"XY"]
+        refuse(order != [b"X\0\0\0", b"Y\0\0\0"], 11, at)
+        return seen[b"X\0\0\0"], seen[b"Y\0\0\0"]
+
+    def chunks(self, at, end):
+        masks = 0
+        while at < end:
+            refuse(end - at < 20, 17, at)
+            size, payload = self.int(at + 16), at + 20
+            refuse(size < 0 or payload + size > end, 17, at)
+            if self.file[at:at + 16] == MASK:
+                masks += 1
+                refuse(masks > 1 or size < 16, 18, at)
+                width, height, representation, stride = struct.unpack_from("<4i", self.file, payload)
+                refuse(width < 0 or height < 0 or stride < 0 or representation != 0, 18, at)
+                refuse(stride * 8 < width or 16 + stride * height > size, 18, at)
+            at = payload + size
+
+    def metadata(self, segment):
+        refuse(segment.room < 256, 10, segment.at)
+        xml, attachment = self.int(segment.body), self.int(segment.body + 4)
+        refuse(xml < 0 or attachment < 0 or 256 + xml + attachment > segment.room, 10, segment.at)
+
+    def attachment_directory(self, segment):
+        refuse(segment.room < 256, 10, segment.at)
+        count = self.int(segment.body)
+        refuse(count < 0 or count > 4096 or 256 + 128 * count > segment.room, 10, segment.at)
+        for at in range(segment.body + 256, segment.body + 256 + 128 * count, 128):
+            entry = self.file[at:at + 128]
+            refuse(entry[:2] != b"A1" or 0 not in entry[48:], 11, at)
+            refuse(self.int(at + 20) != 0, 7, at)
+            attachment = self.named(self.long(at + 12), ATTACH)
+            refuse(attachment is None, 14, at)
+            refuse(attachment.room < 256, 15, attachment.at)
+            refuse(self.file[attachment.body + 16:attachment.body + 144] != entry, 15, attachment.at)
+            size = self.int(attachment.body)
+            refuse(size < 0 or 256 + size > attachment.room, 16, attachment.at)
+        self.attachments = count
+
+
+def listing(file):
+    """The listing's text, as bytes."""
+    try:
+        refuse(len(file) > 65536, 30, 0)
+        read = Reading(file)
+    except Refused as r:
+        return b"refused=%d\nplace=%d\n" % (r.number, r.place)
+    whole = [(x, y) for x, y in read.tiles if x[1] == x[2] and y[1] == y[2]]
+    box = b"none"
+    if whole:
+        left, top = min(x[0] for x, y in whole), min(y[0] for x, y in whole)
+        right, bottom = max(x[0] + x[1] for x, y in whole), max(y[0] + y[1] for x, y in whole)
+        box = b"%d,%d,%d,%d" % (left, top, right, bottom)
+    return b"bytes=%d\nsegments=%d\ntiles=%d\nattachments=%d\nbox=%s\n" % (
+        len(file), len(read.segments), len(read.tiles), read.attachments, box)
+
+
+if __name__ == "__main__":
+    sys.stdout.buffer.write(listing(sys.stdin.buffer.read()))
