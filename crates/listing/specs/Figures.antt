@@ -2,7 +2,7 @@
 use Prim.Native.Nat.{ℕ, _^_, _<_, min, max}
 use mathlib.Core.Path.{_≡_}
 use mathlib.Core.List.{List, _++_}
-use mathlib.Core.Bool.{Bool, true, false, cond}
+use mathlib.Core.Bool.{true, cond}
 use lib.ListN.{length}
 use Rattle.format.specs.Bytes.{anyBelow}
 use Rattle.format.specs.Segments.{walked}

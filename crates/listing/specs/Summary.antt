@@ -2,7 +2,7 @@
 -- Plane coordinates are kept plus 2 ^ 31, so that they are compared as numbers that are not negative.
 use Prim.Native.Nat.{ℕ, zero, suc, _+_, min, max}
 use mathlib.Core.List.{List}
-use mathlib.Core.Bool.{Bool, true, false, cond, not}
+use mathlib.Core.Bool.{Bool, cond, not}
 use lib.ListN.{length}
 use lib.IntN.{ℤ}
 use Rattle.format.specs.Bytes.{anyBelow, signed32, biased}

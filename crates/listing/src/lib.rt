@@ -64,6 +64,7 @@ pub struct Figures {
 
 // ---- the box
 
+// The less of two numbers.
 fn least(a: u64, b: u64) -> u64
     ensures { λ r. ⌜ r ≡ min a b ⌝ }
 {
@@ -73,13 +74,14 @@ fn least(a: u64, b: u64) -> u64
     b
 }
 
+// The greater of two numbers.
 fn greatest(a: u64, b: u64) -> u64
     ensures { λ r. ⌜ r ≡ max a b ⌝ }
 {
-    if a < b {
-        return b;
+    if b < a {
+        return a;
     }
-    a
+    b
 }
 
 // Where the dimension at d begins, plus 2^31.
@@ -145,6 +147,7 @@ fn corners_of(s: &[u8], n: u64) -> Corners
 
 // ---- the figures
 
+// How many segments there are.
 fn segment_count(s: &[u8]) -> u64
     requires { ⌜ verdict (now s) ≡ Accepted ⌝ }
     ensures { λ r. ⌜ r ≡ length (walked (now (s .entry))) ⌝ }
@@ -153,6 +156,7 @@ fn segment_count(s: &[u8]) -> u64
     w.count
 }
 
+// How many tiles there are: the entries of the directory.
 fn tile_count(s: &[u8]) -> u64
     requires { ⌜ verdict (now s) ≡ Accepted ⌝ }
     ensures { λ r. ⌜ r ≡ tileCount (now (s .entry)) ⌝ }
@@ -173,6 +177,7 @@ fn attachment_count(s: &[u8]) -> u64
     fields::u32_at(s, t + 32)
 }
 
+// The figures of an accepted file.
 fn figures_of(s: &[u8]) -> Figures
     requires { ⌜ verdict (now s) ≡ Accepted ⌝ }
     ensures { λ r. ⌜ r ≡ figuresOf (now (s .entry)) ⌝ }
@@ -201,6 +206,7 @@ fn unshifted(x: u64) -> i32
     fields::signed_of(fields::biased_of(x))
 }
 
+// The box as signed numbers.
 fn bounds_of(c: Corners) -> Bounds
     requires { ⌜ Held c ⌝ }
     ensures { λ r. ⌜ r ≡ boundsBy c ⌝ }
@@ -217,6 +223,7 @@ fn bounds_of(c: Corners) -> Bounds
     Bounds::Nothing
 }
 
+// The figures with the box as signed numbers.
 fn summary_of(f: Figures) -> Summary
     requires { ⌜ Held (f .corners) ⌝ }
     ensures { λ r. ⌜ r ≡ summaryBy f ⌝ }

@@ -1,13 +1,13 @@
 -- What the table of a selection tells of an entry: 0 where it is not selected, and else its place. Assumes nothing.
-use Prim.Native.Nat.{ℕ, zero, suc, _+_, _≤_, _<_}
+use Prim.Native.Nat.{ℕ, zero, suc, _≤_, _<_}
 use mathlib.Core.Path.{_≡_, refl}
 use mathlib.Core.List.{List}
 use mathlib.Core.Bool.{Bool, true, false, cond}
 use native.Mathlib.Omega.{arith}
-use lib.ListN.{length, getD}
+use lib.ListN.{getD}
 use lib.IntN.{ℤ}
 use Rattle.format.specs.Entry.{nextEntry}
-use Rattle.format.specs.Directory.{tileCount, entryPlace}
+use Rattle.format.specs.Directory.{entryPlace}
 use Rattle.selection.specs.Select.{selects}
 use Rattle.selection.specs.Table.{Selection}
 

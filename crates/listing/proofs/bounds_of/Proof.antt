@@ -1,8 +1,5 @@
 use Rattle.entries.proofs.ReadBack.{read-back}
-use mathlib.Core.Path.{_≡_, refl, sym, ap, _∙_}
-use native.Mathlib.Omega.{arith}
 use Rattle.listing.specs.Summary.{boundsOf}
-use borrow.Author.Needs.{needs}
 use Rattle.listing.proofs.bounds_of.Statement.{statement}
 use Rattle.listing.proofs.bounds_of.Tie as tie
 

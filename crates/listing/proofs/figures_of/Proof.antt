@@ -1,6 +1,5 @@
 use native.Mathlib.Omega.{arith}
 use Rattle.listing.specs.Figures.{figuresOf}
-use borrow.Author.Needs.{needs}
 use Rattle.listing.proofs.figures_of.Statement.{statement}
 use Rattle.listing.proofs.figures_of.Tie as tie
 

@@ -1,4 +1,3 @@
-use native.Mathlib.Omega.{arith}
 use Rattle.text.proofs.Texts.{appended-both}
 use Rattle.listing.specs.Listing.{line, nameBox}
 use borrow.Author.Needs.{needs}

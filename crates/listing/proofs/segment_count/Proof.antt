@@ -1,4 +1,4 @@
-use mathlib.Core.Path.{_≡_, refl, sym, ap, _∙_}
+use mathlib.Core.Path.{_∙_}
 use Rattle.format.proofs.Acceptance.{verdict-parts}
 use borrow.Author.Needs.{needs}
 use Rattle.listing.proofs.segment_count.Statement.{statement}

@@ -1,4 +1,4 @@
-use mathlib.Core.Path.{_≡_, refl, sym, ap, _∙_}
+use mathlib.Core.Path.{sym, _∙_}
 use Rattle.listing.proofs.Texts.{summary-by, figures-held}
 use Rattle.listing.specs.Summary.{summaryAnswer}
 use borrow.Author.Needs.{needs}

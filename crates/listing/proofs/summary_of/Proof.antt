@@ -1,6 +1,4 @@
-use mathlib.Core.Path.{_≡_, refl, sym, ap, _∙_}
 use Rattle.listing.specs.Figures.{summaryBy}
-use borrow.Author.Needs.{needs}
 use Rattle.listing.proofs.summary_of.Statement.{statement}
 use Rattle.listing.proofs.summary_of.Tie as tie
 

@@ -1,6 +1,4 @@
-use mathlib.Core.Path.{_≡_, refl, sym, ap, _∙_}
 use native.Mathlib.Omega.{arith}
-use denote.Ref.{now}
 use Rattle.judge.proofs.AcceptedFile.{tiled}
 use Rattle.format.specs.File.{directoryPosition}
 use Rattle.format.specs.Directory.{tileCount, entryCount}

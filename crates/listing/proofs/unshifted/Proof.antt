@@ -1,5 +1,5 @@
 use Rattle.entries.proofs.ReadBack.{read-back}
-use mathlib.Core.Path.{_≡_, refl, sym, ap, _∙_}
+use mathlib.Core.Path.{_∙_}
 use native.Mathlib.Omega.{arith}
 use Rattle.format.specs.Bytes.{biased}
 use borrow.Author.Needs.{needs}

@@ -1,4 +1,4 @@
-use mathlib.Core.Path.{_≡_, refl, sym, ap, _∙_}
+use mathlib.Core.Path.{sym, _∙_}
 use native.Mathlib.Omega.{arith}
 use Rattle.entries.proofs.EntryLaws.{dimensions-ok}
 use Rattle.listing.specs.Figures.{withTile}

@@ -1,0 +1,47 @@
+use Rattle.turns.specs.TileOf.{windowOf}
+use native.Mathlib.Omega.{arith}
+use mathlib.Core.Path.{_≡_, refl, sym, ap, _∙_}
+use Rattle.format.specs.Entry.{pixelBytes}
+use Rattle.blank.specs.Blank.{FillRoom}
+use Rattle.blank.proofs.Start.{started}
+use borrow.Author.Needs.{needs}
+use Rattle.compose.proofs.begin.Statement.{statement}
+use Rattle.compose.proofs.begin.Tie as tie
+
+mul-n : tie.Need-mul-n
+mul-n c = search needs
+
+pixel-bytes-requires : tie.Need-pixel-bytes-requires
+pixel-bytes-requires c κs = search needs
+
+fill-requires : tie.Need-fill-requires
+fill-requires c κs =
+    let k = c .before .before .before .before .before .before in
+    let e = c .before .pixel-bytes .ensures in
+    record { bytes = rw e (k .pre .0 .bytes); target = rw e (k .pre .0 .target); pixel = k .pre .1 .1 ∙ sym e }
+
+clear-requires : tie.Need-clear-requires
+clear-requires c κs = search needs
+
+same-length : tie.Need-same-length
+same-length c = search needs
+
+same-length-2 : tie.Need-same-length-2
+same-length-2 c = search needs
+
+returns : tie.Need-returns
+returns c =
+    let k = c .before .before .before .before .before .before .before .before .before .before .before .before .before in
+    started (windowOf (k .args .w)) (pixelBytes (k .args .t)) _ _ _ _ _ (rw (c .before .before .before .before .before .before .before .before .pixel-bytes .ensures) at (c .before .before .before .before .before .before .fill .ensures)) (c .before .before .clear .ensures)
+
+pub begin-spec : {M : Type 1} → statement M
+begin-spec =
+    tie.close
+    (tie.spec
+    mul-n
+    pixel-bytes-requires
+    fill-requires
+    clear-requires
+    same-length
+    same-length-2
+    returns)

@@ -1,0 +1,2 @@
+-- What the steps of composing promise each other.
+pub mod Steps

@@ -1,0 +1,396 @@
+// Composes one plane of a file: select, ask, agree, paint. The plain composer paints bottom tile first, the quick one top tile first.
+use format::Verdict;
+use question::Composed;
+use question::Frame;
+use turns::Rect;
+ghost use mathlib.Core.Path.{_≡_};
+ghost use mathlib.Core.List.{[], _∷_, map};
+ghost use mathlib.Core.Bool.{Bool, true, false, cond, not};
+ghost use Prim.Native.Nat.{ℕ, _+_, _%_, _≤_, _<_, _^_};
+ghost use lib.ListN.{length, getD, take};
+ghost use lib.Dec.{eqb};
+ghost use Rattle.format.specs.Checks.{first, row, rowsBelow};
+ghost use Rattle.format.specs.Entry.{pixelType, pixelBytes};
+ghost use Rattle.format.specs.Directory.{tileCount, entryPlace};
+ghost use Rattle.plane.specs.Tiles.{area};
+ghost use Rattle.plane.specs.Turns.{plain, quick};
+ghost use Rattle.plane.specs.Demand2.{Room};
+ghost use Rattle.format.specs.Rules.{verdict};
+ghost use Rattle.format.specs.declared.Verdict.the-variants.{Accepted};
+ghost use Rattle.turns.specs.TileOf.{windowOf};
+ghost use Rattle.turns.specs.Turned.{kindOf};
+ghost use Rattle.question.specs.Question.{typeBad, windowBad};
+ghost use Rattle.question.specs.Question as Question;
+ghost use Rattle.question.specs.Call.{Answered};
+ghost use Rattle.subblocks.specs.Judged.{Listed};
+ghost use Rattle.tiles.specs.Painted.{PaintRoom, Painted};
+ghost use Rattle.compose.specs.Steps.{chosenIn, Chosen, Edges, takesTurn, keysBelow, Gathered, AddRoom, Added, tileOfKey, RunRoom, RunDone, PlaneRoom, Begun, PlaneDone, asked, Agreed, Asked23, Examined};
+
+// The covered count and the store count of a plane that was painted.
+pub struct Counts {
+    pub covered: u64,
+    pub stored: u64,
+}
+
+// ---- agree
+
+// Whether the tile of the entry at e meets the window and has another type than t. No entry stands at 0.
+fn disagrees(s: &[u8], e: u64, w: Rect, t: u64) -> bool
+    requires { ⌜ ((e ≡ 0 → ⊥) → Listed (now s) e) ⌝ }
+    requires { ⌜ Edges w ⌝ }
+    ensures { λ r. ⌜ r ≡ cond (not (eqb e 0)) (typeBad (now (s .entry)) (windowOf w) t e) false ⌝ }
+{
+    if e == 0 {
+        return false;
+    }
+    let a = tiles::rectangle_of(s, e);
+    if !tiles::meets_window(a, w) {
+        return false;
+    }
+    fields::u32_at(s, e + 2) != t
+}
+
+// Refusal 23 over the chosen entries below n, in directory order.
+fn agree(s: &[u8], table: &[u64; 4096], n: u64, w: Rect, t: u64) -> Verdict
+    requires { ⌜ Chosen (now s) (now table) ⌝ }
+    requires { ⌜ (n ≡ tileCount (now s)) × Edges w ⌝ }
+    ensures { λ r. ⌜ r ≡ first (rowsBelow n (λ k. row 23 (entryPlace (now (s .entry)) k) (cond (chosenIn (now (table .entry)) k) (typeBad (now (s .entry)) (windowOf w) t (entryPlace (now (s .entry)) k)) false) ∷ [])) ⌝ }
+{
+    let mut k: u64 = 0;
+    while k < n {
+        let e = table[k as usize];
+        if disagrees(s, e, w, t) {
+            return Verdict::Refused {
+                number: 23,
+                place: e,
+            };
+        }
+        k += 1;
+    }
+    Verdict::Accepted
+}
+
+// ---- the keys of the tiles that take a turn
+
+// The keys with that of entry k, at e, among them, if its tile takes a turn.
+fn add_key(s: &[u8], keys: &mut [u64; 4096], count: usize, k: u64, e: u64, w: Rect) -> usize
+    requires { ⌜ AddRoom (now s) (now keys) count k e w ⌝ }
+    ensures { λ r. ⌜ Added (now (s .entry)) (now (keys .entry)) count k e w (now (keys .exit)) r ⌝ }
+{
+    if e == 0 {
+        return count;
+    }
+    let a = tiles::rectangle_of(s, e);
+    if !tiles::meets_window(a, w) {
+        return count;
+    }
+    keys::insert(keys, count, tiles::rank_of(s, k, e));
+    count + 1
+}
+
+// The keys of the entries below n that take a turn, rising; the result is how many there are.
+fn gather(s: &[u8], table: &[u64; 4096], n: u64, w: Rect, keys: &mut [u64; 4096]) -> usize
+    requires { ⌜ Chosen (now s) (now table) ⌝ }
+    requires { ⌜ (n ≡ tileCount (now s)) × Edges w ⌝ }
+    requires { ⌜ length (now keys) ≡ 4096 ⌝ }
+    ensures { λ r. ⌜ Gathered n (now (s .entry)) (now (table .entry)) (windowOf w) (now (keys .exit)) r ⌝ }
+{
+    let mut count: usize = 0;
+    let mut k: u64 = 0;
+    while k < n {
+        let e = table[k as usize];
+        count = add_key(s, keys, count, k, e, w);
+        k += 1;
+    }
+    count
+}
+
+// ---- turns
+
+// The turn of the tile that a key stands for.
+fn paint_key(
+    target: &mut [u8],
+    map: &mut [u8],
+    s: &[u8],
+    table: &[u64; 4096],
+    key: u64,
+    w: Rect,
+    on: bool,
+    quick: bool,
+) -> usize
+    requires { ⌜ (length (now table) ≡ 4096) × PaintRoom (now target) (now map) (now s) (getD (now table) (key % 4096) 0) w ⌝ }
+    ensures { λ r. ⌜ Painted (now (target .entry)) (now (map .entry)) (now (s .entry)) on (getD (now (table .entry)) (key % 4096) 0) w quick (now (target .exit)) (now (map .exit)) r ⌝ }
+{
+    let k = (key % 4096) as usize;
+    let e = table[k];
+    tiles::paint_entry(target, map, s, e, w, on, quick)
+}
+
+// The plain composer's turns over tiles of type t: bottom tile first, along rising keys. The result is the store count.
+fn paint_up(
+    target: &mut [u8],
+    map: &mut [u8],
+    s: &[u8],
+    table: &[u64; 4096],
+    keys: &[u64; 4096],
+    count: usize,
+    w: Rect,
+    t: u64,
+    on: bool,
+) -> u64
+    requires { ⌜ RunRoom (now target) (now map) (now s) (now table) (now keys) count w t ⌝ }
+    ensures { λ r. ⌜ RunDone plain (now (target .entry)) (now (map .entry)) (now (s .entry)) (now (keys .entry)) count w t on (now (target .exit)) (now (map .exit)) r ⌝ }
+{
+    let mut stored: u64 = 0;
+    let mut i: usize = 0;
+    while i < count {
+        let key = keys[i];
+        stored += paint_key(target, map, s, table, key, w, on, false) as u64;
+        i += 1;
+    }
+    stored
+}
+
+// The quick composer's turns over tiles of type t: top tile first, along falling keys. The result is the store count.
+fn paint_down(
+    target: &mut [u8],
+    map: &mut [u8],
+    s: &[u8],
+    table: &[u64; 4096],
+    keys: &[u64; 4096],
+    count: usize,
+    w: Rect,
+    t: u64,
+    on: bool,
+) -> u64
+    requires { ⌜ RunRoom (now target) (now map) (now s) (now table) (now keys) count w t ⌝ }
+    ensures { λ r. ⌜ RunDone quick (now (target .entry)) (now (map .entry)) (now (s .entry)) (now (keys .entry)) count w t on (now (target .exit)) (now (map .exit)) r ⌝ }
+{
+    let mut stored: u64 = 0;
+    let mut i = count;
+    while 0 < i {
+        i -= 1;
+        let key = keys[i];
+        stored += paint_key(target, map, s, table, key, w, on, true) as u64;
+    }
+    stored
+}
+
+// ---- paint
+
+// How many entries an accepted file has.
+fn tile_count(s: &[u8]) -> u64
+    requires { ⌜ verdict (now s) ≡ Accepted ⌝ }
+    ensures { λ r. ⌜ r ≡ tileCount (now (s .entry)) ⌝ }
+{
+    fields::u32_at(s, fields::u64_at(s, 84) + 32)
+}
+
+// The start: the background pixel everywhere, and a zero map.
+fn begin(target: &mut [u8], map: &mut [u8], w: Rect, t: u64, background: &[u8])
+    requires { ⌜ Room (windowOf w) (pixelBytes t) (now target) (now map) ⌝ }
+    requires { ⌜ (area (windowOf w) ≤ 4294967296) × (length (now background) ≡ pixelBytes t) ⌝ }
+    ensures { λ _. ⌜ Begun (now (target .entry)) (now (map .entry)) (now (background .entry)) w t (now (target .exit)) (now (map .exit)) ⌝ }
+{
+    let n = w.height * w.width;
+    let b = entries::pixel_bytes(t) as usize;
+    blank::fill(target, n, b, background);
+    blank::clear(map, n);
+}
+
+// The plain composer's plane: the covered count is the map's ones.
+fn paint_plain(
+    target: &mut [u8],
+    map: &mut [u8],
+    s: &[u8],
+    table: &[u64; 4096],
+    w: Rect,
+    t: u64,
+    on: bool,
+    background: &[u8],
+) -> Counts
+    requires { ⌜ PlaneRoom (now target) (now map) (now s) (now table) (now background) w t ⌝ }
+    ensures { λ r. ⌜ PlaneDone plain (now (target .entry)) (now (map .entry)) (now (s .entry)) (now (table .entry)) (now (background .entry)) w t on (now (target .exit)) (now (map .exit)) r ⌝ }
+{
+    begin(target, map, w, t, background);
+    let n = tile_count(s);
+    let mut keys = [0u64; 4096];
+    let count = gather(s, table, n, w, &mut keys);
+    let stored = paint_up(target, map, s, table, &keys, count, w, t, on);
+    let covered = cover::count_ones(map, w.height * w.width) as u64;
+    Counts { covered, stored }
+}
+
+// The quick composer's plane: the covered count is what its turns stored.
+fn paint_quick(
+    target: &mut [u8],
+    map: &mut [u8],
+    s: &[u8],
+    table: &[u64; 4096],
+    w: Rect,
+    t: u64,
+    on: bool,
+    background: &[u8],
+) -> Counts
+    requires { ⌜ PlaneRoom (now target) (now map) (now s) (now table) (now background) w t ⌝ }
+    ensures { λ r. ⌜ PlaneDone quick (now (target .entry)) (now (map .entry)) (now (s .entry)) (now (table .entry)) (now (background .entry)) w t on (now (target .exit)) (now (map .exit)) r ⌝ }
+{
+    begin(target, map, w, t, background);
+    let n = tile_count(s);
+    let mut keys = [0u64; 4096];
+    let count = gather(s, table, n, w, &mut keys);
+    let stored = paint_down(target, map, s, table, &keys, count, w, t, on);
+    Counts {
+        covered: stored,
+        stored,
+    }
+}
+
+// ---- a whole call
+
+// Selects by the starts, and agrees: refusal 23. The table holds the selection.
+fn examine_tiles(
+    s: &[u8],
+    starts: &[i32],
+    any_scene: bool,
+    f: Frame,
+    table: &mut [u64; 4096],
+) -> Verdict
+    requires { ⌜ (verdict (now s) ≡ Accepted) × (length (now table) ≡ 4096) ⌝ }
+    requires { ⌜ windowBad (Question.windowOf f) ≡ false ⌝ }
+    ensures { λ r. ⌜ Agreed (now (s .entry)) (now (starts .entry)) «any_scene» f (now (table .exit)) r ⌝ }
+{
+    let n = selection::select(s, starts, any_scene, table);
+    let w = ask::window_of(f);
+    let t = f.pixel_type;
+    agree(s, table, n, w, t)
+}
+
+// Asks, and examines the tiles: refusals 20 to 23.
+fn examine_question(
+    s: &[u8],
+    starts: &[i32],
+    any_scene: bool,
+    f: Frame,
+    background: &[u8],
+    target: u64,
+    map: u64,
+    table: &mut [u64; 4096],
+) -> Verdict
+    requires { ⌜ (verdict (now s) ≡ Accepted) × (length (now table) ≡ 4096) ⌝ }
+    ensures { λ r. ⌜ Asked23 (now (s .entry)) (now (starts .entry)) «any_scene» f (now (background .entry)) target map (now (table .exit)) r ⌝ }
+{
+    let v = ask::ask(f, background, target, map);
+    match v {
+        Verdict::Refused { number, place } => Verdict::Refused { number, place },
+        Verdict::Accepted => examine_tiles(s, starts, any_scene, f, table),
+    }
+}
+
+// Judges the file and examines the question: all of a call's refusals in their order.
+fn examine(
+    s: &[u8],
+    starts: &[i32],
+    any_scene: bool,
+    f: Frame,
+    background: &[u8],
+    target: u64,
+    map: u64,
+    table: &mut [u64; 4096],
+) -> Verdict
+    requires { ⌜ length (now table) ≡ 4096 ⌝ }
+    ensures { λ r. ⌜ Examined (asked (now (s .entry)) (now (starts .entry)) «any_scene» f (now (background .entry))) target map (now (table .exit)) r ⌝ }
+{
+    let v = judge::judge(s);
+    match v {
+        Verdict::Refused { number, place } => Verdict::Refused { number, place },
+        Verdict::Accepted => examine_question(
+            s,
+            starts,
+            any_scene,
+            f,
+            background,
+            target,
+            map,
+            table,
+        ),
+    }
+}
+
+// The plain composer: bottom tile first. Any file bytes, any question, any lent bytes.
+pub fn compose_plain(
+    s: &[u8],
+    starts: &[i32],
+    any_scene: bool,
+    f: Frame,
+    background: &[u8],
+    target: &mut [u8],
+    map: &mut [u8],
+) -> Composed
+    ensures { λ r. ⌜ Answered plain (asked (now (s .entry)) (now (starts .entry)) «any_scene» f (now (background .entry))) (now (target .entry)) (now (map .entry)) (now (target .exit)) (now (map .exit)) r ⌝ }
+{
+    let mut table = [0u64; 4096];
+    let v = examine(
+        s,
+        starts,
+        any_scene,
+        f,
+        background,
+        target.len() as u64,
+        map.len() as u64,
+        &mut table,
+    );
+    match v {
+        Verdict::Refused { number, place } => Composed::Refused { number, place },
+        Verdict::Accepted => {
+            let w = ask::window_of(f);
+            let t = f.pixel_type;
+            let m = f.masks;
+            let on = ask::masks_on(m);
+            let c = paint_plain(target, map, s, &table, w, t, on, background);
+            Composed::Done {
+                covered: c.covered,
+                stored: c.stored,
+            }
+        }
+    }
+}
+
+// The quick composer: top tile first, each pixel stored at most once. Any file bytes, any question, any lent bytes.
+pub fn compose_quick(
+    s: &[u8],
+    starts: &[i32],
+    any_scene: bool,
+    f: Frame,
+    background: &[u8],
+    target: &mut [u8],
+    map: &mut [u8],
+) -> Composed
+    ensures { λ r. ⌜ Answered quick (asked (now (s .entry)) (now (starts .entry)) «any_scene» f (now (background .entry))) (now (target .entry)) (now (map .entry)) (now (target .exit)) (now (map .exit)) r ⌝ }
+{
+    let mut table = [0u64; 4096];
+    let v = examine(
+        s,
+        starts,
+        any_scene,
+        f,
+        background,
+        target.len() as u64,
+        map.len() as u64,
+        &mut table,
+    );
+    match v {
+        Verdict::Refused { number, place } => Composed::Refused { number, place },
+        Verdict::Accepted => {
+            let w = ask::window_of(f);
+            let t = f.pixel_type;
+            let m = f.masks;
+            let on = ask::masks_on(m);
+            let c = paint_quick(target, map, s, &table, w, t, on, background);
+            Composed::Done {
+                covered: c.covered,
+                stored: c.stored,
+            }
+        }
+    }
+}

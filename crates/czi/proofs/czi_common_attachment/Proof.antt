@@ -1,0 +1,30 @@
+use Rattle.czi.proofs.Numbers.{verdict-low, told-low}
+use Rattle.czi.proofs.Told.{said-span}
+use borrow.Author.Needs.{needs}
+use Rattle.czi.proofs.czi_common_attachment.Statement.{statement}
+use Rattle.czi.proofs.czi_common_attachment.Tie as tie
+
+judge-requires : tie.Need-judge-requires
+judge-requires c κs = search needs
+
+common-attachment-span-requires : tie.Need-common-attachment-span-requires
+common-attachment-span-requires c κs = search needs
+
+place-of-requires : tie.Need-place-of-requires
+place-of-requires c κs = search needs
+
+number-of-requires : tie.Need-number-of-requires
+number-of-requires c κs = told-low _ _ (c .before .before .judge .ensures) (verdict-low _)
+
+returns : tie.Need-returns
+returns c = said-span _ _ (c .before .before .before .judge .ensures) _ _ (c .number-of .ensures) (c .before .place-of .ensures) _ _ (c .before .before .common-attachment-span .ensures)
+
+pub czi-common-attachment-spec : {M : Type 1} → statement M
+czi-common-attachment-spec =
+    tie.close
+    (tie.spec
+    judge-requires
+    common-attachment-span-requires
+    place-of-requires
+    number-of-requires
+    returns)

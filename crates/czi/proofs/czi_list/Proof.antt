@@ -1,0 +1,13 @@
+use Rattle.czi.proofs.Told.{said-text}
+use borrow.Author.Needs.{needs}
+use Rattle.czi.proofs.czi_list.Statement.{statement}
+use Rattle.czi.proofs.czi_list.Tie as tie
+
+list-requires : tie.Need-list-requires
+list-requires c κs = search needs
+
+returns : tie.Need-returns
+returns c = said-text _ _ (c .before .list .ensures .0) (c .before .list .ensures .1)
+
+pub czi-list-spec : {M : Type 1} → statement M
+czi-list-spec = tie.close (tie.spec list-requires returns)

@@ -1,0 +1,34 @@
+//! Files and questions by seed.
+//!
+//! [`sound`] gives files that a reader must accept, with every freedom that
+//! the rules of paper 01 leave; [`damage`] changes one field of such a file so
+//! that a given clause of the refusal table is reached; [`ask`] gives
+//! questions, answered and refused ones. Each says by name what it reached,
+//! and a [`Tally`] counts the names.
+
+#![forbid(unsafe_code)]
+
+pub mod ask;
+mod canvas;
+mod container;
+pub mod damage;
+mod draft;
+mod format;
+mod freedoms;
+mod limits;
+mod random;
+mod segment;
+mod sound;
+mod tally;
+mod text;
+mod tile;
+
+pub use draft::sound;
+pub use format::{bytes_a_pixel, Kind, PIXEL_TYPES};
+pub use freedoms::{freedoms, freedoms_of};
+pub use limits::{Limit, LIMITS, LISTING_CLAUSES};
+pub use random::Random;
+pub use segment::{SegmentPlace, HEADER};
+pub use sound::{AttachmentPlace, EntryPlace, MetadataPlace, Sound};
+pub use tally::Tally;
+pub use tile::{Attached, Chunk, Dimension, MaskShape, Tile};

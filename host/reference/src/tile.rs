@@ -1,0 +1,97 @@
+//! Tiles: an entry of the sub-block directory with what its sub-block holds.
+
+use crate::bytes::View;
+use crate::chunk::Mask;
+use crate::entry::{Dimension, Entry};
+use crate::sub_block::SubBlock;
+
+/// How a tile lies along X or Y.
+#[derive(Clone, Copy, Debug, Default, PartialEq, Eq)]
+pub struct Extent {
+    /// Start.
+    pub start: i32,
+    /// Size.
+    pub size: i32,
+    /// StoredSize, or Size where that is 0.
+    pub stored: i32,
+}
+
+impl Extent {
+    /// The first coordinate after the tile.
+    pub fn end(&self) -> i64 {
+        i64::from(self.start) + i64::from(self.size)
+    }
+}
+
+/// The tile record, with all of its dimensions.
+#[derive(Clone, Debug, PartialEq, Eq)]
+pub struct Tile {
+    /// The entry's number, counted from 0.
+    pub number: u64,
+    /// The entry's place in the file.
+    pub place: u64,
+    /// The pixel type.
+    pub pixel_type: u32,
+    /// Bytes a pixel, by that type.
+    pub bytes_a_pixel: u64,
+    /// FilePosition, the place of the sub-block.
+    pub file_position: u64,
+    /// The pyramid byte, which is not judged.
+    pub pyramid: u8,
+    /// X.
+    pub x: Extent,
+    /// Y.
+    pub y: Extent,
+    /// The start of M, if the entry has an M.
+    pub m: Option<i32>,
+    /// The pixels.
+    pub pixels: View,
+    /// The sub-block's metadata.
+    pub metadata: View,
+    /// The sub-block's attachment.
+    pub attachment: View,
+    /// The mask, if there is one.
+    pub mask: Option<Mask>,
+    /// All dimensions in the entry's order.
+    pub dimensions: Vec<Dimension>,
+}
+
+impl Tile {
+    pub(crate) fn new(number: u64, entry: Entry, sub_block: SubBlock) -> Tile {
+        Tile {
+            number,
+            place: entry.place,
+            pixel_type: entry.pixel_type as u32,
+            bytes_a_pixel: entry.bytes_a_pixel,
+            file_position: entry.file_position as u64,
+            pyramid: entry.pyramid,
+            x: extent(&entry, b'X'),
+            y: extent(&entry, b'Y'),
+            m: entry.find(b'M').map(|d| d.start),
+            pixels: sub_block.pixels,
+            metadata: sub_block.metadata,
+            attachment: sub_block.attachment,
+            mask: sub_block.mask,
+            dimensions: entry.dimensions,
+        }
+    }
+
+    /// A tile is a pyramid tile unless stored X and Y equal Size.
+    pub fn is_pyramid_tile(&self) -> bool {
+        self.x.stored != self.x.size || self.y.stored != self.y.size
+    }
+
+    /// Where the tile starts along a letter; one that it lacks counts as 0.
+    pub fn start_of(&self, letter: u8) -> i32 {
+        let found = self.dimensions.iter().find(|d| d.letter == letter);
+        found.map_or(0, |d| d.start)
+    }
+}
+
+fn extent(entry: &Entry, letter: u8) -> Extent {
+    entry.find(letter).map_or(Extent::default(), |d| Extent {
+        start: d.start,
+        size: d.size,
+        stored: d.stored,
+    })
+}

@@ -1,0 +1,41 @@
+//! The command's arguments.
+
+/// How the command is called.
+pub const USAGE: &str = "usage: selfcheck [--files N] [--first SEED] [--questions N-A-FILE]";
+
+/// What is to be run.
+pub struct Options {
+    /// The first seed.
+    pub first: u64,
+    /// The number of files.
+    pub files: u64,
+    /// Questions to each file, beside those that are refused by plan.
+    pub questions: u64,
+}
+
+impl Options {
+    /// Reads the arguments.
+    pub fn parse(mut arguments: impl Iterator<Item = String>) -> Result<Options, String> {
+        let mut options = Options {
+            first: 0,
+            files: 1000,
+            questions: 5,
+        };
+        while let Some(name) = arguments.next() {
+            let field = match name.as_str() {
+                "--files" => &mut options.files,
+                "--first" => &mut options.first,
+                "--questions" => &mut options.questions,
+                _ => return Err(format!("unknown argument {name}")),
+            };
+            let value = arguments.next().ok_or(format!("{name} wants a number"))?;
+            *field = value
+                .parse()
+                .map_err(|_| format!("{name}: {value} is no number"))?;
+        }
+        if options.first.checked_add(options.files).is_none() {
+            return Err("seeds are numbers of 64 bits".to_string());
+        }
+        Ok(options)
+    }
+}

@@ -1,0 +1,121 @@
+//! What a run found.
+
+use generate::ask::{ask_clauses, ask_freedoms, REQUEST_CLAUSES};
+use generate::damage::{clauses, EXTERNAL_CLAUSE};
+use generate::{freedoms, Tally, LIMITS, LISTING_CLAUSES};
+use std::fmt;
+
+/// A run prints so many differences and counts the rest.
+const MOST_PRINTED: usize = 20;
+
+/// The names of what a composed plane may show.
+pub const OUTCOMES: [&str; 8] = [
+    "answered",
+    "refused",
+    "no pixel covered",
+    "some pixels covered",
+    "all pixels covered",
+    "the plain composer stores more than the quick one",
+    "masks change the plane",
+    "cut in two halves",
+];
+
+/// Counts and differences.
+pub struct Report {
+    /// The seed of the file at hand.
+    pub seed: u64,
+    /// Files made, bytes in them.
+    pub files: u64,
+    pub bytes: u64,
+    /// Files with two damages at once, and with damage of any kind.
+    pub pairs: u64,
+    pub scrambled: u64,
+    pub freedoms: Tally,
+    pub limits: Tally,
+    pub ask_freedoms: Tally,
+    pub outcomes: Tally,
+    pub clauses: Tally,
+    differences: Vec<String>,
+    untold: u64,
+}
+
+impl Report {
+    /// All counts at 0.
+    pub fn new() -> Report {
+        let of_files = clauses().into_iter().map(|c| c.name);
+        let of_questions = ask_clauses().iter().map(|c| c.name);
+        let of_requests = REQUEST_CLAUSES.iter().map(|c| c.name);
+        let of_listing = LISTING_CLAUSES.iter().map(|c| c.name);
+        let all = of_files
+            .chain(of_questions)
+            .chain(of_requests)
+            .chain(of_listing);
+        Report {
+            seed: 0,
+            files: 0,
+            bytes: 0,
+            pairs: 0,
+            scrambled: 0,
+            freedoms: Tally::new("Files that take a freedom", freedoms()),
+            limits: Tally::new("Files at a limit", LIMITS.iter().map(|l| l.name)),
+            ask_freedoms: Tally::new("Questions that take a freedom", ask_freedoms()),
+            outcomes: Tally::new("Questions by what came of them", OUTCOMES),
+            clauses: Tally::new("Refusals by clause", all).with_external(EXTERNAL_CLAUSE),
+            differences: Vec::new(),
+            untold: 0,
+        }
+    }
+
+    /// Notes a difference of the file at hand.
+    pub fn differs(&mut self, what: impl fmt::Display) {
+        if self.differences.len() < MOST_PRINTED {
+            self.differences.push(format!("seed {}: {what}", self.seed));
+        } else {
+            self.untold += 1;
+        }
+    }
+
+    /// Notes a difference unless both are equal.
+    pub fn compare<T: PartialEq + fmt::Debug>(&mut self, what: &str, got: T, wanted: T) {
+        if got != wanted {
+            self.differs(format!("{what}: {got:?} instead of {wanted:?}"));
+        }
+    }
+
+    fn tallies(&self) -> [&Tally; 5] {
+        [
+            &self.freedoms,
+            &self.limits,
+            &self.ask_freedoms,
+            &self.outcomes,
+            &self.clauses,
+        ]
+    }
+
+    /// No difference, and every name reached.
+    pub fn passed(&self) -> bool {
+        let all_reached = self.tallies().iter().all(|t| t.missing().is_empty());
+        self.differences.is_empty() && all_reached
+    }
+}
+
+impl fmt::Display for Report {
+    fn fmt(&self, f: &mut fmt::Formatter<'_>) -> fmt::Result {
+        for tally in self.tallies() {
+            writeln!(f, "{tally}")?;
+        }
+        writeln!(f, "{} files, {} bytes in all", self.files, self.bytes)?;
+        writeln!(f, "{} with two damages at once", self.pairs)?;
+        writeln!(f, "{} with damage of any kind", self.scrambled)?;
+        for name in self.tallies().iter().flat_map(|t| t.missing()) {
+            writeln!(f, "NOT REACHED: {name}")?;
+        }
+        for difference in &self.differences {
+            writeln!(f, "DIFFERENT: {difference}")?;
+        }
+        if self.untold > 0 {
+            writeln!(f, "and {} more differences", self.untold)?;
+        }
+        Ok(())
+    }
+}
