@@ -3,7 +3,7 @@ use Prim.Native.Nat.{ℕ, zero, suc, _+_, _%_, _/_}
 use mathlib.Core.Path.{_≡_, refl}
 use mathlib.Core.List.{List, [], _∷_, _++_}
 use mathlib.Core.Bool.{Bool, true, false}
-use lib.ListN.{replicate, take}
+use lib.ListN.{length, replicate, take}
 use Rattle.format.specs.Bytes.{anyOf, anyBelow, allBelow, leastBelow, u32At, u64At, biased, sameAt, sameRange}
 use Rattle.format.specs.Names.{nameFile, nameDirectory, nameSubBlock, nameMetadata, nameAttachment, nameAttachmentDirectory, nameDeleted, markTile, containerMarker, maskGuid}
 use Rattle.format.specs.Checks.{rowsBelow}
@@ -17,6 +17,21 @@ use Rattle.format.specs.Attachments.{metadataRows, attachmentsRows}
 use Rattle.format.specs.Rules.{checks, verdict}
 use Rattle.format.specs.declared.Verdict.{Verdict}
 use Rattle.format.specs.declared.Verdict.the-variants.{Accepted, Refused}
+use Rattle.format.specs.Checks.{ifAccepted}
+use Rattle.format.specs.Entry.{isPyramid}
+use Rattle.format.specs.Records.{maskOf}
+use Rattle.format.specs.Masks.{maskFrom}
+use lib.IntN.{ℤ, pos, negsuc}
+use Rattle.plane.specs.Sums.{sum, tab}
+use Rattle.plane.specs.Paint.{bitIn, bit, pack, paint, mark, clear}
+use Rattle.plane.specs.Turns.{Kind, plain, quick, turn, run, below, insert, bottomFirst}
+use Rattle.plane.specs.Turns as Turns
+use Rattle.selection.specs.Select.{askedStart, tileStart, free, startsThere, selects}
+use Rattle.tiles.specs.FileTile.{rankOf, rectangle, covers, meets, tileOf, fileTile, tilesBelow}
+use Rattle.question.specs.Question.{windowBad, pixelBad, lentBad, askRows, typeBad, agreeRows}
+use Rattle.question.specs.Call.{Asked, callVerdict, selected, targetAfter}
+use Rattle.question.specs.declared.Frame.{Frame}
+use Rattle.question.specs.declared.Masks.the-variants.{NotChosen}
 
 -- ---- the files of the cases
 
@@ -56,22 +71,71 @@ file19 =
 unfoldable pub mask1 : ℕ → ℕ → List ℕ → List ℕ
 mask1 width stride line = maskGuid ++ little 4 (16 + stride) ++ little 4 width ++ little 4 1 ++ little 4 0 ++ little 4 stride ++ line
 
+-- a dimension of that letter, Start and Size
+unfoldable pub dimensionOf : ℕ → ℕ → ℕ → List ℕ
+dimensionOf x from size = little 4 x ++ little 4 from ++ little 4 size ++ little 4 0 ++ little 4 0
+
+-- an entry of a Gray8 tile with these dimensions, n of them, whose sub-block is at q
+unfoldable pub entryOf : ℕ → ℕ → List ℕ → List ℕ
+entryOf q n dimensions = markTile ++ little 4 0 ++ little 8 q ++ little 4 0 ++ little 4 0 ++ replicate 6 0 ++ little 4 n ++ dimensions
+
+-- its sub-block, allocated 288, with these pixels
+unfoldable pub blockOf : List ℕ → List ℕ → List ℕ
+blockOf entry pixels = segment nameSubBlock 288 (take 256 (little 4 0 ++ little 4 0 ++ little 8 (length pixels) ++ entry ++ replicate 256 0) ++ pixels)
+
+-- one tile, left −4, width 8, of the pixels 10 to 17: the sub-block is at 384
+unfoldable pub wide8 : List ℕ
+wide8 = entryOf 384 2 (dimensionOf 88 4294967292 8 ++ dimensionOf 89 0 1)
+
+unfoldable pub fileWide : List ℕ
+fileWide =
+    fileSegment ++
+    (segment nameDirectory 224 (little 4 1 ++ replicate 124 0 ++ wide8) ++
+    blockOf wide8 (10 ∷ 11 ∷ 12 ∷ 13 ∷ 14 ∷ 15 ∷ 16 ∷ 17 ∷ []))
+
+-- two tiles of one pixel at (0, 0), 7 and then 9, the sub-blocks at 512 and 832: of these dimensions besides X and Y
+unfoldable pub fileTwo : ℕ → List ℕ → ℕ → List ℕ → List ℕ
+fileTwo n one m two =
+    let e = entryOf 512 n (dimensionOf 88 0 1 ++ dimensionOf 89 0 1 ++ one) in
+    let f = entryOf 832 m (dimensionOf 88 0 1 ++ dimensionOf 89 0 1 ++ two) in
+    fileSegment ++
+    (segment nameDirectory 352 (little 4 2 ++ replicate 124 0 ++ e ++ f) ++
+    (blockOf e (7 ∷ []) ++
+    blockOf f (9 ∷ [])))
+
 -- ---- questions, and what the rules answer
+
+-- a question with no start, background 0, masks not chosen, for a Gray8 window of one row
+unfoldable pub rowAt : List ℕ → ℤ → ℕ → Asked
+rowAt file left width = record {
+  file = file;
+  starts = [];
+  anyScene = false;
+  frame = record { «pixel_type» = 0; left = left; top = pos 0; width = width; height = 1; masks = NotChosen };
+  background = 0 ∷ [];
+}
 
 pub data Question : Type 0 where
   judge : List ℕ → Question
   fixed : ℕ → Question
   valid : List ℕ → ℕ → ℕ → Question
+  -- the bytes of a window of one row in the file, by either composer
+  plane : Kind → List ℕ → ℤ → ℕ → Question
+  -- the verdict on that question, over a target and a map with room
+  ask : List ℕ → ℤ → ℕ → Question
 
 pub data Answer : Type 0 where
   verdict-is : Verdict → Answer
   number : ℕ → Answer
   flag : Bool → Answer
+  bytes : List ℕ → Answer
 
 abbrev pub answer : Question → Answer
 answer (judge bs) = verdict-is (verdict bs)
 answer (fixed n) = number (fixedPart n)
 answer (valid mask x y) = flag (maskValid mask 0 x y)
+answer (plane k file left width) = bytes (targetAfter k (rowAt file left width) (replicate width 0) (0 ∷ []))
+answer (ask file left width) = verdict-is (callVerdict (rowAt file left width) width 1)
 
 pub record Case : Type 0 where
   pub question : Question
@@ -96,15 +160,26 @@ cases =
     case (fixed 10) (number 256) ∷
     -- P5 11: F 268
     case (fixed 11) (number 268) ∷
+    -- P6 tile left −4, width 8, window left −2, width 4: tile columns 2 to 5
+    case (plane plain fileWide (negsuc 1) 4) (bytes (12 ∷ 13 ∷ 14 ∷ 15 ∷ [])) ∷
+    case (plane quick fileWide (negsuc 1) 4) (bytes (12 ∷ 13 ∷ 14 ∷ 15 ∷ [])) ∷
     -- P7 mask byte 80 hex, width 10, stride 2: x = 0 valid, 1 not
     case (valid (mask1 10 2 (0x80 ∷ 0 ∷ [])) 0 0) (flag true) ∷
     case (valid (mask1 10 2 (0x80 ∷ 0 ∷ [])) 1 0) (flag false) ∷
     -- P8 mask width 3 on a tile 5 wide: x = 3 invalid, though its bit is one
     case (valid (mask1 3 1 (0xff ∷ [])) 3 0) (flag false) ∷
+    -- P9 M −1 lies over no M, though the tile without M is the later entry
+    case (plane plain (fileTwo 3 (dimensionOf 77 4294967295 1) 2 []) (pos 0) 1) (bytes (7 ∷ [])) ∷
+    case (plane quick (fileTwo 3 (dimensionOf 77 4294967295 1) 2 []) (pos 0) 1) (bytes (7 ∷ [])) ∷
+    -- P10 two tiles with M 4: the later entry
+    case (plane plain (fileTwo 3 (dimensionOf 77 4 1) 3 (dimensionOf 77 4 1)) (pos 0) 1) (bytes (9 ∷ [])) ∷
+    case (plane quick (fileTwo 3 (dimensionOf 77 4 1) 3 (dimensionOf 77 4 1)) (pos 0) 1) (bytes (9 ∷ [])) ∷
+    -- P11 window left 2,147,483,647, width 1: refused 20
+    case (ask file288 (pos 2147483647) 1) (verdict-is (Refused 20 0)) ∷
     -- P12 attachment of 19 bytes marked as container: 17
     case (judge file19) (verdict-is (Refused 17 712)) ∷
     []
 
 pub all-right : AllRight cases
-unfolding little segment fileSegment file288 dimension1 entry1 file19 mask1 anyOf anyBelow allBelow leastBelow u32At u64At biased sameAt sameRange nameFile nameDirectory nameSubBlock nameMetadata nameAttachment nameAttachmentDirectory nameDeleted markTile containerMarker maskGuid rowsBelow allocatedSize usedSize room nextSegment lengthBad nameBad allocatedBad usedBad endBad sizesBad roleBad segmentRows walkRows walkedFrom walked segmentsRows member walkedAs major filePart directoryPosition metadataPosition updatePending attachmentDirectoryPosition namesNone namesNoneBut0 fileRows pixelType filePosition entryPart compression dimensionCount letter start size storedField stored nextEntry headBad letterBad tooFar isPlane sizeBad dimensionBad hasLetter repeats closesPlane dimensionsBad letterIndex letterPlace pixelBytes metadataSize attachmentSize dataSize fixedPart copyBad subBlockBad pixelsSize contentsBad metadataPlace pixelsPlace attachmentPlace isContainer chunkSize nextChunk chunkBad isMask maskBad maskRefused maskWidth maskHeight maskStride representation chunkRows chunksRows maskByte maskValid entryCount roomEnd tileCount entryPlace directoryBad headRows tileRows subBlockRows attachmentRows entryRows directoryRows metadataRows attachmentsRows checks verdict
-all-right = (refl, (refl, (refl, (refl, (refl, (refl, (refl, (refl, (refl, tt)))))))))
+unfolding little segment fileSegment file288 dimension1 entry1 file19 mask1 dimensionOf entryOf blockOf wide8 fileWide fileTwo rowAt sum tab bitIn bit pack paint mark clear turn run Turns.start below insert bottomFirst askedStart tileStart free startsThere selects rankOf rectangle covers meets tileOf fileTile tilesBelow windowBad pixelBad lentBad askRows typeBad agreeRows callVerdict selected targetAfter isPyramid maskOf maskFrom anyOf anyBelow allBelow leastBelow u32At u64At biased sameAt sameRange nameFile nameDirectory nameSubBlock nameMetadata nameAttachment nameAttachmentDirectory nameDeleted markTile containerMarker maskGuid rowsBelow allocatedSize usedSize room nextSegment lengthBad nameBad allocatedBad usedBad endBad sizesBad roleBad segmentRows walkRows walkedFrom walked segmentsRows member walkedAs major filePart directoryPosition metadataPosition updatePending attachmentDirectoryPosition namesNone namesNoneBut0 fileRows pixelType filePosition entryPart compression dimensionCount letter start size storedField stored nextEntry headBad letterBad tooFar isPlane sizeBad dimensionBad hasLetter repeats closesPlane dimensionsBad letterIndex letterPlace pixelBytes metadataSize attachmentSize dataSize fixedPart copyBad subBlockBad pixelsSize contentsBad metadataPlace pixelsPlace attachmentPlace isContainer chunkSize nextChunk chunkBad isMask maskBad maskRefused maskWidth maskHeight maskStride representation chunkRows chunksRows maskByte maskValid entryCount roomEnd tileCount entryPlace directoryBad headRows tileRows subBlockRows attachmentRows entryRows directoryRows metadataRows attachmentsRows checks verdict
+all-right = (refl, (refl, (refl, (refl, (refl, (refl, (refl, (refl, (refl, (refl, (refl, (refl, (refl, (refl, (refl, (refl, tt))))))))))))))))
