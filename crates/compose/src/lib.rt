@@ -178,14 +178,6 @@ fn paint_down(
 
 // ---- paint
 
-// How many entries an accepted file has.
-fn tile_count(s: &[u8]) -> u64
-    requires { ⌜ verdict (now s) ≡ Accepted ⌝ }
-    ensures { λ r. ⌜ r ≡ tileCount (now (s .entry)) ⌝ }
-{
-    fields::u32_at(s, fields::u64_at(s, 84) + 32)
-}
-
 // The start: the background pixel everywhere, and a zero map.
 fn begin(target: &mut [u8], map: &mut [u8], w: Rect, t: u64, background: &[u8])
     requires { ⌜ Room (windowOf w) (pixelBytes t) (now target) (now map) ⌝ }
@@ -198,8 +190,8 @@ fn begin(target: &mut [u8], map: &mut [u8], w: Rect, t: u64, background: &[u8])
     blank::clear(map, n);
 }
 
-// The plain composer's plane: the covered count is the map's ones.
-fn paint_plain(
+// The plane: the start, then the turns of the quick or the plain composer. The covered count is what the quick turns stored, or the map's ones.
+fn paint_plane(
     target: &mut [u8],
     map: &mut [u8],
     s: &[u8],
@@ -208,42 +200,25 @@ fn paint_plain(
     t: u64,
     on: bool,
     background: &[u8],
+    quick: bool,
 ) -> Counts
     requires { ⌜ PlaneRoom (now target) (now map) (now s) (now table) (now background) w t ⌝ }
-    ensures { λ r. ⌜ PlaneDone plain (now (target .entry)) (now (map .entry)) (now (s .entry)) (now (table .entry)) (now (background .entry)) w t on (now (target .exit)) (now (map .exit)) r ⌝ }
+    ensures { λ r. ⌜ PlaneDone (kindOf quick) (now (target .entry)) (now (map .entry)) (now (s .entry)) (now (table .entry)) (now (background .entry)) w t on (now (target .exit)) (now (map .exit)) r ⌝ }
 {
     begin(target, map, w, t, background);
-    let n = tile_count(s);
+    let n = judge::tile_count(s);
     let mut keys = [0u64; 4096];
     let count = gather(s, table, n, w, &mut keys);
+    if quick {
+        let stored = paint_down(target, map, s, table, &keys, count, w, t, on);
+        return Counts {
+            covered: stored,
+            stored,
+        };
+    }
     let stored = paint_up(target, map, s, table, &keys, count, w, t, on);
     let covered = cover::count_ones(map, w.height * w.width) as u64;
     Counts { covered, stored }
-}
-
-// The quick composer's plane: the covered count is what its turns stored.
-fn paint_quick(
-    target: &mut [u8],
-    map: &mut [u8],
-    s: &[u8],
-    table: &[u64; 4096],
-    w: Rect,
-    t: u64,
-    on: bool,
-    background: &[u8],
-) -> Counts
-    requires { ⌜ PlaneRoom (now target) (now map) (now s) (now table) (now background) w t ⌝ }
-    ensures { λ r. ⌜ PlaneDone quick (now (target .entry)) (now (map .entry)) (now (s .entry)) (now (table .entry)) (now (background .entry)) w t on (now (target .exit)) (now (map .exit)) r ⌝ }
-{
-    begin(target, map, w, t, background);
-    let n = tile_count(s);
-    let mut keys = [0u64; 4096];
-    let count = gather(s, table, n, w, &mut keys);
-    let stored = paint_down(target, map, s, table, &keys, count, w, t, on);
-    Counts {
-        covered: stored,
-        stored,
-    }
 }
 
 // ---- a whole call
@@ -317,8 +292,8 @@ fn examine(
     }
 }
 
-// The plain composer: bottom tile first. Any file bytes, any question, any lent bytes.
-pub fn compose_plain(
+// A whole call of the quick or the plain composer.
+fn compose_by(
     s: &[u8],
     starts: &[i32],
     any_scene: bool,
@@ -326,8 +301,9 @@ pub fn compose_plain(
     background: &[u8],
     target: &mut [u8],
     map: &mut [u8],
+    quick: bool,
 ) -> Composed
-    ensures { λ r. ⌜ Answered plain (asked (now (s .entry)) (now (starts .entry)) «any_scene» f (now (background .entry))) (now (target .entry)) (now (map .entry)) (now (target .exit)) (now (map .exit)) r ⌝ }
+    ensures { λ r. ⌜ Answered (kindOf quick) (asked (now (s .entry)) (now (starts .entry)) «any_scene» f (now (background .entry))) (now (target .entry)) (now (map .entry)) (now (target .exit)) (now (map .exit)) r ⌝ }
 {
     let mut table = [0u64; 4096];
     let v = examine(
@@ -347,13 +323,28 @@ pub fn compose_plain(
             let t = f.pixel_type;
             let m = f.masks;
             let on = ask::masks_on(m);
-            let c = paint_plain(target, map, s, &table, w, t, on, background);
+            let c = paint_plane(target, map, s, &table, w, t, on, background, quick);
             Composed::Done {
                 covered: c.covered,
                 stored: c.stored,
             }
         }
     }
+}
+
+// The plain composer: bottom tile first. Any file bytes, any question, any lent bytes.
+pub fn compose_plain(
+    s: &[u8],
+    starts: &[i32],
+    any_scene: bool,
+    f: Frame,
+    background: &[u8],
+    target: &mut [u8],
+    map: &mut [u8],
+) -> Composed
+    ensures { λ r. ⌜ Answered plain (asked (now (s .entry)) (now (starts .entry)) «any_scene» f (now (background .entry))) (now (target .entry)) (now (map .entry)) (now (target .exit)) (now (map .exit)) r ⌝ }
+{
+    compose_by(s, starts, any_scene, f, background, target, map, false)
 }
 
 // The quick composer: top tile first, each pixel stored at most once. Any file bytes, any question, any lent bytes.
@@ -368,29 +359,5 @@ pub fn compose_quick(
 ) -> Composed
     ensures { λ r. ⌜ Answered quick (asked (now (s .entry)) (now (starts .entry)) «any_scene» f (now (background .entry))) (now (target .entry)) (now (map .entry)) (now (target .exit)) (now (map .exit)) r ⌝ }
 {
-    let mut table = [0u64; 4096];
-    let v = examine(
-        s,
-        starts,
-        any_scene,
-        f,
-        background,
-        target.len() as u64,
-        map.len() as u64,
-        &mut table,
-    );
-    match v {
-        Verdict::Refused { number, place } => Composed::Refused { number, place },
-        Verdict::Accepted => {
-            let w = ask::window_of(f);
-            let t = f.pixel_type;
-            let m = f.masks;
-            let on = ask::masks_on(m);
-            let c = paint_quick(target, map, s, &table, w, t, on, background);
-            Composed::Done {
-                covered: c.covered,
-                stored: c.stored,
-            }
-        }
-    }
+    compose_by(s, starts, any_scene, f, background, target, map, true)
 }

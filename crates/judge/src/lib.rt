@@ -6,9 +6,10 @@ ghost use Prim.Native.Nat.{_+_, _≤_};
 ghost use lib.ListN.{length};
 ghost use Rattle.format.specs.Checks.{first};
 ghost use Rattle.format.specs.File.{namesNone, namesNoneBut0, fileRows};
-ghost use Rattle.format.specs.Directory.{directoryRows};
-ghost use Rattle.format.specs.Attachments.{metadataRows, attachmentsRows};
+ghost use Rattle.format.specs.Directory.{directoryRows, tileCount};
+ghost use Rattle.format.specs.Attachments.{metadataRows, attachmentsRows, attachmentCount};
 ghost use Rattle.format.specs.Rules.{verdict};
+ghost use Rattle.format.specs.declared.Verdict.the-variants.{Accepted};
 ghost use Rattle.segments.specs.Walk.{Filled};
 ghost use Rattle.judge.specs.Located.{Located};
 
@@ -147,4 +148,26 @@ pub fn judge(s: &[u8]) -> Verdict
             judge_walked(s, &table, count)
         }
     }
+}
+
+// ---- how much an accepted file has
+
+// How many tiles there are: the entries of the sub-block directory.
+pub fn tile_count(s: &[u8]) -> u64
+    requires { ⌜ verdict (now s) ≡ Accepted ⌝ }
+    ensures { λ r. ⌜ r ≡ tileCount (now (s .entry)) ⌝ }
+{
+    fields::u32_at(s, fields::u64_at(s, 84) + 32)
+}
+
+// How many attachments there are: none without an attachment directory.
+pub fn attachment_count(s: &[u8]) -> u64
+    requires { ⌜ verdict (now s) ≡ Accepted ⌝ }
+    ensures { λ r. ⌜ r ≡ attachmentCount (now (s .entry)) ⌝ }
+{
+    let t = fields::u64_at(s, 104);
+    if t == 0 {
+        return 0;
+    }
+    fields::u32_at(s, t + 32)
 }

@@ -156,27 +156,6 @@ fn segment_count(s: &[u8]) -> u64
     w.count
 }
 
-// How many tiles there are: the entries of the directory.
-fn tile_count(s: &[u8]) -> u64
-    requires { ⌜ verdict (now s) ≡ Accepted ⌝ }
-    ensures { λ r. ⌜ r ≡ tileCount (now (s .entry)) ⌝ }
-{
-    let d = fields::u64_at(s, 84);
-    fields::u32_at(s, d + 32)
-}
-
-// How many attachments there are: none without an attachment directory.
-fn attachment_count(s: &[u8]) -> u64
-    requires { ⌜ verdict (now s) ≡ Accepted ⌝ }
-    ensures { λ r. ⌜ r ≡ attachmentCount (now (s .entry)) ⌝ }
-{
-    let t = fields::u64_at(s, 104);
-    if t == 0 {
-        return 0;
-    }
-    fields::u32_at(s, t + 32)
-}
-
 // The figures of an accepted file.
 fn figures_of(s: &[u8]) -> Figures
     requires { ⌜ verdict (now s) ≡ Accepted ⌝ }
@@ -184,8 +163,8 @@ fn figures_of(s: &[u8]) -> Figures
 {
     let bytes = s.len() as u64;
     let segments = segment_count(s);
-    let tiles = tile_count(s);
-    let attachments = attachment_count(s);
+    let tiles = judge::tile_count(s);
+    let attachments = judge::attachment_count(s);
     let corners = corners_of(s, tiles);
     Figures {
         bytes,

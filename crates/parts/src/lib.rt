@@ -15,14 +15,6 @@ ghost use Rattle.format.specs.declared.Verdict.the-variants.{Accepted};
 
 // ---- tiles: entries of the sub-block directory, counted from 0
 
-// How many tiles an accepted file has.
-fn tile_count(s: &[u8]) -> u64
-    requires { ⌜ verdict (now s) ≡ Accepted ⌝ }
-    ensures { λ r. ⌜ r ≡ tileCount (now (s .entry)) ⌝ }
-{
-    fields::u32_at(s, fields::u64_at(s, 84) + 32)
-}
-
 // The refusal of the file, or 24 where there is no tile n.
 pub fn tile_refusal(s: &[u8], n: u64) -> Verdict
     ensures { λ r. ⌜ r ≡ tileVerdict (now (s .entry)) n ⌝ }
@@ -31,7 +23,7 @@ pub fn tile_refusal(s: &[u8], n: u64) -> Verdict
     match v {
         Verdict::Refused { number, place } => Verdict::Refused { number, place },
         Verdict::Accepted => {
-            if tile_count(s) <= n {
+            if judge::tile_count(s) <= n {
                 return Verdict::Refused {
                     number: 24,
                     place: 0,
@@ -209,18 +201,6 @@ pub fn dimension(s: &[u8], n: u64, k: u64) -> DimensionAnswer
 
 // ---- attachments: entries of the attachment directory, counted from 0
 
-// How many attachments an accepted file has.
-fn attachment_count(s: &[u8]) -> u64
-    requires { ⌜ verdict (now s) ≡ Accepted ⌝ }
-    ensures { λ r. ⌜ r ≡ attachmentCount (now (s .entry)) ⌝ }
-{
-    let t = fields::u64_at(s, 104);
-    if t == 0 {
-        return 0;
-    }
-    fields::u32_at(s, t + 32)
-}
-
 // The refusal of the file, or 24 where there is no attachment n.
 pub fn attachment_refusal(s: &[u8], n: u64) -> Verdict
     ensures { λ r. ⌜ r ≡ attachmentVerdict (now (s .entry)) n ⌝ }
@@ -229,7 +209,7 @@ pub fn attachment_refusal(s: &[u8], n: u64) -> Verdict
     match v {
         Verdict::Refused { number, place } => Verdict::Refused { number, place },
         Verdict::Accepted => {
-            if attachment_count(s) <= n {
+            if judge::attachment_count(s) <= n {
                 return Verdict::Refused {
                     number: 24,
                     place: 0,

@@ -6,19 +6,19 @@ use native.Mathlib.Numerals.{add-one}
 use native.Mathlib.Omega.{arith}
 use native.Mathlib.Nat.{zero-add, lt-of-not-le, le-refl}
 use native.Mathlib.Decide.{decLt}
-use mathlib.Core.List.{List, [], _∷_}
+use mathlib.Core.List.{List, [], _∷_, reverse}
 use mathlib.Core.Bool.{and-false, or-true}
 use lib.ListN.{length}
 use Rattle.plane.specs.Sums.{one, sum, count}
 use Rattle.plane.specs.Tiles.{Tile, Window, area, givesAt, Ranked, covered, within, sumOver}
 use Rattle.plane.specs.Paint.{bit, ones}
-use Rattle.plane.specs.Turns.{Painting, Kind, plain, quick, start, order, compose, turnTile, before, gave, added}
+use Rattle.plane.specs.Turns.{Painting, Kind, plain, quick, start, bottomFirst, order, compose, turnTile, before, gave, added}
 use Rattle.plane.specs.Demand2.{Room}
 use Rattle.plane.specs.Cuts.{Line, column, row, Cuts, fore, rear, Inside, Proper, Halves}
 use Rattle.plane.specs.Demand3.{Demand3}
 use Rattle.plane.proofs.SumLaws.{one-le}
 use Rattle.plane.proofs.RunLaws.{turn-byte, turn-sets, plain-adds, count-within}
-use Rattle.plane.proofs.OrderLaws.{order-length, order-to, order-from, sort-sum}
+use Rattle.plane.proofs.OrderLaws.{order-length, order-to, order-from, sort-sum, sort-rising, reverse-falling, rising-at, falling-at}
 use Rattle.plane.proofs.PlaneLaws.{makes, same-pixels, one-plane, plane-ones, within-cut}
 use Rattle.plane.proofs.TurnLaws.{before-first, before-next, before-last, before-room, before-stored, covered-since, quick-times, quick-ones}
 
@@ -64,6 +64,8 @@ module _ (b : ℕ) (bg : List ℕ) (ts : List Tile) (d : Ranked ts) where
   unfolding start
   demand3 = record {
     each = λ k. (order-length k ts, λ s m. order-to k ts m, λ s m. order-from k ts m);
+    rises = λ i j h l. rising-at (bottomFirst ts) (sort-rising ts d) i j h (omega (arith, order-length plain ts));
+    falls = λ i j h l. falling-at (reverse (bottomFirst ts)) (reverse-falling (bottomFirst ts) (sort-rising ts d)) i j h (omega (arith, order-length quick ts));
     turns = λ k w t m. (
       before-first k w b bg ts t m,
       λ i h. ap (before k w b bg ts t m) (add-one i) ∙ before-next k w b bg ts t m i h,

@@ -1,16 +1,16 @@
 -- The order by rank, and the topmost tile.
 use mathlib.Core.Path.{_≡_, refl, sym, ap, _∙_, subst}
 use mathlib.Core.Logic.{_⊎_, inl, inr, ⊎-elim}
-use Prim.Native.Nat.{ℕ, suc, _+_, _≤_, _<_}
+use Prim.Native.Nat.{ℕ, zero, suc, _+_, _≤_, _<_}
 use native.Mathlib.Nat.{le-of-eq}
 use native.Mathlib.Omega.{arith}
 use mathlib.Core.List.{List, [], _∷_, _++_, reverse, reverse-cons, List·Memᴰ, List·Memᴰ·head, List·Memᴰ·tail, List·Memᴰ·not-nil, List·Memᴰ·cases-cons, List·Memᴰ·append-cases, List·Memᴰ·eq-of-singleton, Memᴰ·append-left, Memᴰ·append-right}
 use mathlib.Core.Bool.{true, false, true≢false}
 use lib.Dec.{leb}
-use lib.ListN.{length, length-reverse}
+use lib.ListN.{length, length-reverse, getD}
 use borrow.Author.Tests.{leb-true, leb-false}
 use Rattle.plane.specs.Tiles.{Tile, Ranked, covered, sumOver}
-use Rattle.plane.specs.Turns.{Kind, plain, quick, below, insert, bottomFirst, order}
+use Rattle.plane.specs.Turns.{Kind, plain, quick, below, insert, bottomFirst, order, noTile}
 use Rattle.plane.specs.Demand2.{Top, None}
 use Rattle.plane.proofs.Tests.{cond-case, by-bool}
 use Rattle.plane.proofs.RunLaws.{lastByte, firstByte}
@@ -131,6 +131,25 @@ reverse-falling [] r = tt
 reverse-falling (t ∷ ts) r =
     subst (λ (l : List Tile). Falling l) (sym (reverse-cons t ts))
     (falling-snoc (reverse ts) t (reverse-falling ts (r .1)) (λ s m. r .0 s (reverse-from ts m)))
+
+-- ---- by number
+
+mem-at : (l : List Tile) (i : ℕ) → i < length l → List·Memᴰ (getD l i noTile) l
+mem-at [] i h = absurd (omega arith)
+mem-at (t ∷ ts) zero h = List·Memᴰ·head refl
+mem-at (t ∷ ts) (suc i) h = List·Memᴰ·tail (mem-at ts i (omega arith))
+
+pub rising-at : (l : List Tile) → Rising l → (i j : ℕ) → i < j → j < length l → getD l i noTile .rank < getD l j noTile .rank
+rising-at [] r i j h k = absurd (omega arith)
+rising-at (t ∷ ts) r i zero h k = absurd (omega arith)
+rising-at (t ∷ ts) r zero (suc j) h k = r .0 (getD ts j noTile) (mem-at ts j (omega arith))
+rising-at (t ∷ ts) r (suc i) (suc j) h k = rising-at ts (r .1) i j (omega arith) (omega arith)
+
+pub falling-at : (l : List Tile) → Falling l → (i j : ℕ) → i < j → j < length l → getD l j noTile .rank < getD l i noTile .rank
+falling-at [] r i j h k = absurd (omega arith)
+falling-at (t ∷ ts) r i zero h k = absurd (omega arith)
+falling-at (t ∷ ts) r zero (suc j) h k = r .0 (getD ts j noTile) (mem-at ts j (omega arith))
+falling-at (t ∷ ts) r (suc i) (suc j) h k = falling-at ts (r .1) i j (omega arith) (omega arith)
 
 -- ---- the topmost tile
 

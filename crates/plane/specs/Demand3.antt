@@ -17,6 +17,9 @@ pub record Demand3 (b : ℕ) (bg : List ℕ) (ts : List Tile) : Type 0 where
   -- a run has one turn for each selected tile, and no other
   pub each : (k : Kind)
       → (length (order k ts) ≡ length ts) × ((s : Tile) → List·Memᴰ s ts → List·Memᴰ s (order k ts)) × ((s : Tile) → List·Memᴰ s (order k ts) → List·Memᴰ s ts)
+  -- bottom tile first: ranks rise along the plain one's turns; top tile first: they fall along the quick one's
+  pub rises : (i j : ℕ) → i < j → j < length ts → turnTile plain ts i .rank < turnTile plain ts j .rank
+  pub falls : (i j : ℕ) → i < j → j < length ts → turnTile quick ts j .rank < turnTile quick ts i .rank
   -- the first gets the start, each later one what the last left, and what the last leaves is the composer's answer
   pub turns : (k : Kind) (w : Window) (t m : List ℕ)
       → (before k w b bg ts t m 0 ≡ start w b bg t m)

@@ -6,11 +6,11 @@ use Rattle.plane.specs.Paint.{ones}
 use Rattle.plane.specs.Tiles.{area}
 use Rattle.plane.specs.Turns.{Painting}
 use Rattle.plane.specs.Cuts.{fore, rear, SamePixels}
-use Rattle.question.specs.Call.{callVerdict, askedWindow, askedBytes, answer, targetAfter, mapAfter}
-use Rattle.question.specs.Demand3.{AllCalls, foreFrame, rearFrame}
+use Rattle.question.specs.Call.{callVerdict, askedWindow, askedBytes, answer, targetAfter, mapAfter, numberIn, placeIn, coveredIn}
+use Rattle.question.specs.Demand3.{AllCalls, Agree, foreFrame, rearFrame}
 use Rattle.question.proofs.Accepts.{call-ok}
 use Rattle.question.proofs.Calls.{decide, proper, room, ranked, runs, after-is, covered-is}
-use Rattle.question.proofs.Halves.{fore-half, rear-half, half-accepted, half-room, half-after, half-covered}
+use Rattle.question.proofs.Halves.{fore-half, rear-half, rear-int32, half-accepted, half-room, half-after, half-covered}
 
 pub all-calls : AllCalls
 unfolding answer targetAfter mapAfter
@@ -40,6 +40,7 @@ all-calls a left top t m =
           let f₂ = rearFrame l (a .frame) in
           let h₁ = fore-half l a in
           let h₂ = rear-half l a left top in
+          let int32 = rear-int32 l a left top (proper a t m e) c in
           let e₁ = half-accepted a (fore l w) f₁ h₁ (length t) (length m) o (halves .fore-proper) (halves .fore-meets) t₁ m₁ r₁ in
           let e₂ = half-accepted a (rear l w) f₂ h₂ (length t) (length m) o (halves .rear-proper) (halves .rear-meets) t₂ m₂ r₂ in
           let same =
@@ -49,6 +50,9 @@ all-calls a left top t m =
           let whole-is = sym (after-is a t m e k) in
           let fore-is = sym (half-after a (fore l w) f₁ h₁ t₁ m₁ e₁ k₁) in
           let rear-is = sym (half-after a (rear l w) f₂ h₂ t₂ m₂ e₂ k₂) in (
+            halves,
+            int32 .0,
+            int32 .1,
             h₁ .window,
             h₂ .window,
             e₁,
@@ -59,3 +63,13 @@ all-calls a left top t m =
                 ∙ ap₂ (λ (n n′ : ℕ). n + n′) (sym (half-covered a (fore l w) f₁ h₁ t₁ m₁ e₁ k₁)) (sym (half-covered a (rear l w) f₂ h₂ t₂ m₂ e₂ k₂)),
           );
     }
+
+pub agree : Agree
+agree a left top t m t₁ m₁ t₂ m₂ r₁ r₂ p q =
+    let d = all-calls a left top t m in (
+      ap numberIn (p .answer-is) ∙ d .same-number ∙ sym (ap numberIn (q .answer-is)),
+      ap placeIn (p .answer-is) ∙ d .same-place ∙ sym (ap placeIn (q .answer-is)),
+      ap coveredIn (p .answer-is) ∙ d .same-covered ∙ sym (ap coveredIn (q .answer-is)),
+      p .target-is ∙ d .same-target ∙ sym (q .target-is),
+      p .map-is ∙ d .same-map ∙ sym (q .map-is),
+    )

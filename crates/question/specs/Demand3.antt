@@ -10,11 +10,17 @@ use Rattle.plane.specs.Paint.{ones}
 use Rattle.plane.specs.Tiles.{Tile, Ranked, Window, area, within, covered, sumOver}
 use Rattle.plane.specs.Turns.{Painting, Kind, plain, quick, added}
 use Rattle.plane.specs.Demand2.{Plane}
-use Rattle.plane.specs.Cuts.{Line, column, row, Cuts, fore, rear, SamePixels}
+use Rattle.plane.specs.Cuts.{Line, column, row, Cuts, fore, rear, Halves, SamePixels}
 use Rattle.plane.specs.Demand3 as Runs
 use Rattle.question.specs.Question.{windowOf}
-use Rattle.question.specs.Call.{Asked, callVerdict, askedWindow, askedBytes, selected, painted, answer, targetAfter, mapAfter, numberIn, placeIn, coveredIn, storedIn}
+use Rattle.question.specs.Call.{Asked, callVerdict, askedWindow, askedBytes, selected, painted, answer, targetAfter, mapAfter, numberIn, placeIn, coveredIn, storedIn, Answered}
 use Rattle.question.specs.declared.Frame.{Frame}
+use Rattle.question.specs.declared.Composed.{Composed}
+
+-- a number of 32 bits, signed: what left and top are
+abbrev pub Int32 : ℤ → Type 0
+Int32 (pos n) = n < 2 ^ 31
+Int32 (negsuc n) = n < 2 ^ 31
 
 -- ---- a straight line cuts the window of a question into two: everything else is given exactly as the whole window's call was
 
@@ -68,20 +74,22 @@ pub record Demand3 (a : Asked) (t m : List ℕ) : Type 0 where
   -- each turn of the quick one changes only pixels not yet covered, and of all its turns at most one gives a pixel
   pub ranked : callVerdict a (length t) (length m) ≡ Accepted → Ranked (selected a)
   pub runs : callVerdict a (length t) (length m) ≡ Accepted → Runs.Demand3 (askedBytes a) (a .background) (selected a)
-  -- a cut window adds up, whichever composer serves the whole and each half
+  -- a cut window adds up, whichever composer serves the whole and each half: each pixel is in one half, and the halves can be asked
   pub cut : callVerdict a (length t) (length m) ≡ Accepted → (l : Line) → Cuts l (askedWindow a) → (k k₁ k₂ : Kind) (t₁ m₁ t₂ m₂ : List ℕ)
       → RoomFor (foreOf l a) t₁ m₁ → RoomFor (rearOf l a) t₂ m₂
-      → (askedWindow (foreOf l a) ≡ fore l (askedWindow a)) × (askedWindow (rearOf l a) ≡ rear l (askedWindow a))
+      → Halves l (askedWindow a) × Int32 (rearFrame l (a .frame) .left) × Int32 (rearFrame l (a .frame) .top)
+      × (askedWindow (foreOf l a) ≡ fore l (askedWindow a)) × (askedWindow (rearOf l a) ≡ rear l (askedWindow a))
       × (callVerdict (foreOf l a) (length t₁) (length m₁) ≡ Accepted) × (callVerdict (rearOf l a) (length t₂) (length m₂) ≡ Accepted)
       × SamePixels (askedBytes a) (askedWindow a) (fore l (askedWindow a)) (after k a t m) (after k₁ (foreOf l a) t₁ m₁)
       × SamePixels (askedBytes a) (askedWindow a) (rear l (askedWindow a)) (after k a t m) (after k₂ (rearOf l a) t₂ m₂)
       × (coveredIn (answer k a t m) ≡ coveredIn (answer k₁ (foreOf l a) t₁ m₁) + coveredIn (answer k₂ (rearOf l a) t₂ m₂))
 
--- a number of 32 bits, signed: what left and top are
-abbrev pub Int32 : ℤ → Type 0
-Int32 (pos n) = n < 2 ^ 31
-Int32 (negsuc n) = n < 2 ^ 31
-
 -- demand 3, entire: of any file bytes, any question and any lent bytes
 abbrev pub AllCalls : Type 0
 AllCalls = (a : Asked) → Int32 (a .frame .left) → Int32 (a .frame .top) → (t m : List ℕ) → Demand3 a t m
+
+-- two calls that keep the composers' promises, one of each, agree
+abbrev pub Agree : Type 0
+Agree = (a : Asked) → Int32 (a .frame .left) → Int32 (a .frame .top) → (t m t₁ m₁ t₂ m₂ : List ℕ) (r₁ r₂ : Composed)
+    → Answered plain a t m t₁ m₁ r₁ → Answered quick a t m t₂ m₂ r₂
+    → (numberIn r₁ ≡ numberIn r₂) × (placeIn r₁ ≡ placeIn r₂) × (coveredIn r₁ ≡ coveredIn r₂) × (t₁ ≡ t₂) × (m₁ ≡ m₂)

@@ -1,12 +1,12 @@
 use native.Mathlib.Omega.{arith}
-use Rattle.judge.proofs.AcceptedFile.{tiled}
 use Rattle.format.specs.File.{directoryPosition}
-use Rattle.format.specs.Directory.{tileCount, entryCount}
-use Rattle.listing.proofs.tile_count.Statement.{statement}
-use Rattle.listing.proofs.tile_count.Tie as tie
+use Rattle.format.specs.Directory.{entryCount, tileCount}
+use Rattle.judge.proofs.AcceptedFile.{tiled}
+use Rattle.judge.proofs.tile_count.Statement.{statement}
+use Rattle.judge.proofs.tile_count.Tie as tie
 
 u64-at-requires : tie.Need-u64-at-requires
-u64-at-requires c κs = let t = tiled _ (c .before .pre) in omega (arith, t .long)
+u64-at-requires c κs = omega (arith, tiled _ (c .before .pre) .long)
 
 add-u32-at : tie.Need-add-u32-at
 unfolding directoryPosition
@@ -14,7 +14,7 @@ add-u32-at c = let t = tiled _ (c .before .before .pre) in omega (arith, t .entr
 
 u32-at-requires : tie.Need-u32-at-requires
 unfolding directoryPosition
-u32-at-requires c κs = let t = tiled _ (c .before .before .pre) in omega (arith, t .entries, c .u64-at .ensures)
+u32-at-requires c κs = omega (arith, tiled _ (c .before .before .pre) .entries, c .u64-at .ensures)
 
 returns : tie.Need-returns
 unfolding tileCount entryCount directoryPosition

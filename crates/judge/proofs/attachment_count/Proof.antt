@@ -1,14 +1,14 @@
-use mathlib.Core.Path.{_∙_}
 use native.Mathlib.Omega.{arith}
+use mathlib.Core.Path.{_∙_}
 use borrow.Author.Tests.{eq-eqb, ne-eqb}
-use Rattle.judge.proofs.AcceptedFile.{tiled, attached}
 use Rattle.format.specs.File.{attachmentDirectoryPosition}
-use Rattle.format.specs.Attachments.{attachmentCount, attachmentEntryCount}
-use Rattle.listing.proofs.attachment_count.Statement.{statement}
-use Rattle.listing.proofs.attachment_count.Tie as tie
+use Rattle.format.specs.Attachments.{attachmentEntryCount, attachmentCount}
+use Rattle.judge.proofs.AcceptedFile.{tiled, attached}
+use Rattle.judge.proofs.attachment_count.Statement.{statement}
+use Rattle.judge.proofs.attachment_count.Tie as tie
 
 u64-at-requires : tie.Need-u64-at-requires
-u64-at-requires c κs = let t = tiled _ (c .before .pre) in omega (arith, t .long)
+u64-at-requires c κs = omega (arith, tiled _ (c .before .pre) .long)
 
 returns : tie.Need-returns
 unfolding attachmentCount attachmentDirectoryPosition
@@ -16,11 +16,11 @@ returns c = rw (← c .before .u64-at .ensures, eq-eqb _ _ (c .if1 .taken))
 
 add-u32-at : tie.Need-add-u32-at
 unfolding attachmentDirectoryPosition
-add-u32-at c = let t = attached _ (c .before .before .before .pre) (λ e. c .if1 .left (c .before .u64-at .ensures ∙ e)) in omega (arith, t .0, c .before .u64-at .ensures)
+add-u32-at c = let e = c .before .u64-at .ensures in omega (arith, attached _ (c .before .before .before .pre) (λ z. c .if1 .left (e ∙ z)) .0, tiled _ (c .before .before .before .pre) .small)
 
 u32-at-requires : tie.Need-u32-at-requires
 unfolding attachmentDirectoryPosition
-u32-at-requires c κs = let t = attached _ (c .before .before .before .pre) (λ e. c .if1 .left (c .before .u64-at .ensures ∙ e)) in omega (arith, t .0, c .before .u64-at .ensures)
+u32-at-requires c κs = let e = c .before .u64-at .ensures in omega (arith, attached _ (c .before .before .before .pre) (λ z. c .if1 .left (e ∙ z)) .0)
 
 returns-2 : tie.Need-returns-2
 unfolding attachmentCount attachmentDirectoryPosition attachmentEntryCount
