@@ -1,7 +1,7 @@
-/* Reads CZI microscope files (ZISRAW): judges one, hands out its parts and records, and lists it.
+/* Reads CZI microscope files (ZISRAW): judges one, hands out its parts and records, lists it, and composes its planes.
  *
  * A file is lent as its bytes, a pointer and a length. Any bytes and any number get an answer: nothing has to be
- * checked before a call, and no call changes a byte of the file.
+ * checked before a call, and no call changes a byte of the file. Only a target and a map are lent to be written.
  *
  * Every function but czi_list returns the number of the refusal, 0 where there is none. What stands behind an
  * out-pointer is part of the answer: it is written always, and is 0 where there is nothing to say.
@@ -10,15 +10,18 @@
  * czi_list looks at the length before).
  *
  * What a caller owes, which nothing here tests: no pointer is NULL, not even that of a file of length 0; file has
- * file_len bytes; an out-pointer is to as many objects of its type as are named, apart from the file and from each
- * other. A call takes some 80 KiB of stack. No function keeps a pointer, and there is no state: calls may run side
- * by side.
+ * file_len bytes, and so for all that is lent; an out-pointer is to as many objects of its type as are named. What is
+ * written, a target, a map or what stands behind an out-pointer, is apart from all else that the call is given. A call
+ * takes some 80 KiB of stack, one that composes some 150. No function keeps a pointer, and there is no state:
+ * calls may run side by side.
  *
  * The refusals by number; crates/format/specs says when each is given, and which goes first:
  *    1 length             5 first segment     9 positions          13 compression    17 chunk
  *    2 segment name       6 Major            10 directory          14 named segment  18 mask
  *    3 segment sizes      7 FilePart         11 entry              15 copy           24 no such number
  *    4 segment count      8 UpdatePending    12 pixel type         16 sizes          30 too long to list
+ * and of a composer, after those of the file; crates/question/specs says when:
+ *   20 window            21 asked pixel      22 lent too short     23 a tile's type
  *
  * Each function is proved to give exactly what its contract says (crates/czi/src/lib.rt; what the contracts cite is
  * in crates/czi/specs). Nothing checks this header against them.
@@ -129,6 +132,51 @@ uint32_t czi_summary(const uint8_t *file, size_t file_len, uint64_t *place,
 enum { CZI_TEXT = 192 };
 
 uint64_t czi_list(const uint8_t *file, size_t file_len, uint8_t *text);
+
+/* ---- Composing: the pixels of a window of the plane, each from the topmost selected tile that gives it, else the
+ * background.
+ *
+ * starts       where the tiles to select start, for the letters A to Z: what is missing is 0, what is past 26 is
+ *              ignored, and so are X, Y and M. A letter that a tile lacks counts as 0. Pyramid tiles are not selected.
+ * any_scene    0: S selects as the other letters do; else tiles of any S are selected.
+ * pixel_type   that of the target's pixels: every selected tile that meets the window has it, else 23.
+ * background   one pixel.
+ * left, top    the window's corner in the plane; width and height, 1 to 65,536.
+ * masks        1 on: a tile gives only its valid pixels. 2 off. Any other number: not chosen, which is off.
+ * target       width * height pixels row by row, unpadded.
+ * map          one bit a pixel in the same order, high bit first: 1 where a tile gave the pixel. The unused bits of its
+ *              last byte are 0.
+ *
+ * What of target and map is past those stays. The refusals, after those of the file and in this order, at place 0 but
+ * for the last:
+ *   20 a side is not 1 to 65,536, or the right or bottom edge is above 2,147,483,647
+ *   21 there is no such pixel type, or background is not one pixel long
+ *   22 target or map is too short
+ *   23 a selected tile that meets the window has another pixel type: the first in the directory, place is its entry
+ * A refused call changes no byte of target and map.
+ *
+ * covered      how many pixels a tile gave: the map's ones. 0 where refused.
+ * stored       how many pixels were stored from tiles. 0 where refused.
+ *
+ * Both give the same number, place and covered, and leave the same target and map. */
+
+enum { CZI_MASKS_ON = 1, CZI_MASKS_OFF = 2 };
+
+/* Bottom tile first: stored is the sum of what the selected tiles give in the window, hidden or not. */
+uint32_t czi_compose_plain(const uint8_t *file, size_t file_len,
+                           const int32_t *starts, size_t starts_len, uint32_t any_scene,
+                           uint32_t pixel_type, const uint8_t *background, size_t background_len,
+                           int32_t left, int32_t top, uint32_t width, uint32_t height, uint32_t masks,
+                           uint8_t *target, size_t target_len, uint8_t *map, size_t map_len,
+                           uint64_t *place, uint64_t *covered, uint64_t *stored);
+
+/* Top tile first, each pixel stored at most once: stored is covered. */
+uint32_t czi_compose_quick(const uint8_t *file, size_t file_len,
+                           const int32_t *starts, size_t starts_len, uint32_t any_scene,
+                           uint32_t pixel_type, const uint8_t *background, size_t background_len,
+                           int32_t left, int32_t top, uint32_t width, uint32_t height, uint32_t masks,
+                           uint8_t *target, size_t target_len, uint8_t *map, size_t map_len,
+                           uint64_t *place, uint64_t *covered, uint64_t *stored);
 
 #ifdef __cplusplus
 }

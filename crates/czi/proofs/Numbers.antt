@@ -1,4 +1,4 @@
--- Every refusal of a file or of a question by number has a number of at most 30. Assumes nothing.
+-- Every refusal of a file, of a question by number or of a composer has a number of at most 30. Assumes nothing.
 use Prim.Native.Nat.{ℕ, zero, suc, _≤_}
 use mathlib.Core.Path.{_≡_, refl}
 use mathlib.Core.List.{List, [], _∷_, _++_}
@@ -19,6 +19,11 @@ use Rattle.format.specs.Rules.{checks, verdict, tileVerdict, attachmentVerdict}
 use Rattle.format.specs.Records.{dimensionVerdict}
 use Rattle.format.specs.declared.Verdict.{Verdict}
 use Rattle.format.specs.declared.Verdict.the-variants.{Accepted, Refused}
+use Rattle.plane.specs.Turns.{Kind}
+use Rattle.question.specs.Question.{askRows, agreeRows}
+use Rattle.question.specs.Call.{Asked, chosen, callVerdict, answerIf, answer, numberIn}
+use Rattle.question.specs.declared.Frame.{Frame}
+use Rattle.question.specs.declared.Composed.{Composed}
 use Rattle.format.proofs.Below.{and-both}
 use Rattle.format.proofs.Firsts.{first-append}
 
@@ -149,3 +154,30 @@ module _ (bs : List ℕ) where
 -- what a call was told is such a verdict
 pub told-low : (v w : Verdict) → v ≡ w → numberOf w ≤ 30 → numberOf v ≤ 30
 told-low v w e h = rw e h
+
+-- ---- what a composer is asked
+
+ask-low : (f : Frame) (background : List ℕ) (target map : ℕ) → Low (askRows f background target map)
+unfolding askRows lows
+ask-low f background target map = low-all (askRows f background target map) refl
+
+agree-low : (bs : List ℕ) (chosen : ℕ → Bool) (f : Frame) → Low (agreeRows bs chosen f)
+unfolding agreeRows lows
+agree-low bs chosen f = low-below (tileCount bs) _ (λ k. low-all _ refl)
+
+call-low : (a : Asked) (target map : ℕ) → numberOf (callVerdict a target map) ≤ 30
+unfolding callVerdict
+call-low a target map =
+    low-append (checks (a .file)) _ (checks-low (a .file))
+    (low-append (askRows (a .frame) (a .background) target map) _ (ask-low (a .frame) (a .background) target map)
+    (agree-low (a .file) (chosen a) (a .frame)))
+    .low
+
+answer-if-low : (v : Verdict) (covered stored : ℕ) → numberOf v ≤ 30 → numberIn (answerIf v covered stored) ≤ 30
+answer-if-low Accepted covered stored h = h
+answer-if-low (Refused n p) covered stored h = h
+
+-- a composer's answer r
+pub answer-low : (k : Kind) (a : Asked) (t m : List ℕ) (r : Composed) → r ≡ answer k a t m → numberIn r ≤ 30
+unfolding answer
+answer-low k a t m r e = rw e (answer-if-low (callVerdict a (length t) (length m)) _ _ (call-low a (length t) (length m)))

@@ -1,9 +1,13 @@
 -- From what the calls told, v and its number and place among it, to the whole answer about w. Assumes nothing.
-use Prim.Native.Nat.{ℕ, _-_}
+use Prim.Native.Nat.{ℕ, _-_, _^_, _<_}
 use mathlib.Core.Path.{_≡_, refl, ap, _∙_}
 use mathlib.Core.List.{List, _++_}
+use mathlib.Core.Bool.{Bool}
 use lib.ListN.{length, replicate}
 use lib.IntN.{ℤ}
+use lib.Signed.{mag}
+use mir.Syntax.{w32}
+use mir.Val.{ofZ, toZ}
 use Rattle.format.specs.Checks.{numberOf, placeOf}
 use Rattle.format.specs.Rules.{verdict, tileVerdict}
 use Rattle.format.specs.Records.{tileIf, tileAnswer, dimensionIf, dimensionVerdict, dimensionAnswer}
@@ -20,6 +24,13 @@ use Rattle.text.proofs.Texts.{text-length}
 use Rattle.listing.specs.Summary.{summaryIf, summaryAnswer}
 use Rattle.listing.specs.declared.Summary.{Summary}
 use Rattle.listing.specs.declared.SummaryAnswer.{SummaryAnswer}
+use Rattle.plane.specs.Turns.{Kind}
+use Rattle.question.specs.Call.{Answered, numberIn, placeIn, coveredIn, storedIn}
+use Rattle.question.specs.declared.Frame.{Frame}
+use Rattle.question.specs.declared.Composed.{Composed}
+use Rattle.compose.specs.Steps.{asked}
+use Rattle.entries.proofs.ReadBack.{read-back}
+use Rattle.czi.specs.Plane.{frameOf, SaidPlane}
 use Rattle.czi.specs.Given.{tileSaid, tileNumbers, tileStarts, dimensionSaid, summarySaid, boxNumbers}
 use Rattle.czi.specs.Answers.{Said, SaidSpan, SaidTile, SaidDimension, SaidSummary, SaidText}
 use Rattle.czi.specs.declared.BoxNumbers.{BoxNumbers}
@@ -93,3 +104,26 @@ pub said-text : (t : Text) (l : List ℕ) → Clean t → textOf t ≡ l → Sai
 said-text t l c e =
     let n : t .length ≡ length l = cc (text-length t c, ap length e) in
     record { count-is = n; text-is = rw (← n, ← e) (c .rest) }
+
+-- ---- a plane
+
+-- left and top are handed on as their bits
+pub frame-back : (type : ℕ) (left top : ℤ) (width height masks : ℕ) → mag left < 2 ^ 31 → mag top < 2 ^ 31
+    → frameOf type (toZ w32 (ofZ w32 left)) (toZ w32 (ofZ w32 top)) width height masks ≡ frameOf type left top width height masks
+frame-back type left top width height masks l t = rw (read-back left l, read-back top t)
+
+-- what a composer answered about the frame f is told of g
+pub said-plane : (k : Kind) (bs : List ℕ) (starts : List ℤ) (any : Bool) (f g : Frame) (background t m t′ m′ : List ℕ) (r : Composed) (number place covered stored : ℕ)
+    → Answered k (asked bs starts any f background) t m t′ m′ r → f ≡ g
+    → number ≡ numberIn r → place ≡ placeIn r → covered ≡ coveredIn r → stored ≡ storedIn r
+    → SaidPlane k (asked bs starts any g background) t m t′ m′ number place covered stored
+said-plane k bs starts any f g background t m t′ m′ r number place covered stored h e en ep ec es =
+    rw (← e)
+    (record {
+      number-is = en ∙ ap numberIn (h .answer-is);
+      place-is = ep ∙ ap placeIn (h .answer-is);
+      covered-is = ec ∙ ap coveredIn (h .answer-is);
+      stored-is = es ∙ ap storedIn (h .answer-is);
+      target-is = h .target-is;
+      map-is = h .map-is;
+    })

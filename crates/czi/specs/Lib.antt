@@ -1,3 +1,4 @@
 -- What the functions for C and Rust answer.
 pub mod Answers
 pub mod Given
+pub mod Plane

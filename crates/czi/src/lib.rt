@@ -1,5 +1,6 @@
-// The reader for C and Rust (include/czi.h). Each function returns the refusal's number, 0 where there is none, and
-// writes always behind every out-pointer: what a refused call has nothing for is 0. None has a `requires`.
+// The reader and the composers for C and Rust (include/czi.h). Each function returns the refusal's number, 0 where there
+// is none, and writes always behind every out-pointer: what a refused call has nothing for is 0. A lent target or map is
+// no such pointer: a refused call leaves it. None has a `requires`.
 use format::Dimension;
 use format::DimensionAnswer;
 use format::Extent;
@@ -12,6 +13,9 @@ use format::Verdict;
 use listing::Bounds;
 use listing::Summary;
 use listing::SummaryAnswer;
+use question::Composed;
+use question::Frame;
+use question::Masks;
 ghost use mathlib.Core.Path.{_≡_};
 ghost use Prim.Native.Nat.{_≤_};
 ghost use Rattle.format.specs.Checks.{numberOf, placeOf};
@@ -19,6 +23,9 @@ ghost use Rattle.format.specs.Rules.{verdict, tileVerdict, attachmentVerdict};
 ghost use Rattle.format.specs.Records.{dimensionVerdict, tileAnswer, dimensionAnswer, tilePixels, tileMetadata, tileAttachment, attachmentData, commonXml, commonAttachment};
 ghost use Rattle.listing.specs.Summary.{summaryAnswer};
 ghost use Rattle.listing.specs.Listing.{listingOf};
+ghost use Rattle.plane.specs.Turns.{plain, quick};
+ghost use Rattle.question.specs.Call.{numberIn, placeIn, coveredIn, storedIn};
+ghost use Rattle.czi.specs.Plane.{choiceOf, frameOf, planeAsked, SaidPlane};
 ghost use Rattle.czi.specs.Given.{tileGiven, tileSaid, layerNumbers, maskNumbers, tileNumbers, tileStarts, dimensionGiven, dimensionSaid, summaryGiven, summarySaid, boxNumbers};
 ghost use Rattle.czi.specs.Answers.{Said, SaidSpan, SaidTile, SaidDimension, SaidSummary, SaidText};
 
@@ -520,4 +527,147 @@ pub extern "C" fn czi_list(file: &[u8], text: &mut [u8; 192]) -> u64
     let bytes = t.bytes;
     *text = bytes;
     length as u64
+}
+
+// ---- composing a plane
+
+// The masks choice of a number: 1 on, 2 off, any other not chosen.
+fn choice_of(masks: u32) -> Masks
+    ensures { λ r. ⌜ r ≡ choiceOf masks ⌝ }
+{
+    if masks == 1 {
+        return Masks::On;
+    }
+    if masks == 2 {
+        return Masks::Off;
+    }
+    Masks::NotChosen
+}
+
+// The question but for its starts and the background.
+fn frame_of(pixel_type: u32, left: i32, top: i32, width: u32, height: u32, masks: u32) -> Frame
+    ensures { λ r. ⌜ r ≡ frameOf «pixel_type» left top width height masks ⌝ }
+{
+    let choice = choice_of(masks);
+    Frame {
+        pixel_type: pixel_type as u64,
+        left,
+        top,
+        width: width as u64,
+        height: height as u64,
+        masks: choice,
+    }
+}
+
+// The number of a composer's refusal, 0 where there is none.
+fn composed_number(c: Composed) -> u32
+    requires { ⌜ numberIn c ≤ 30 ⌝ }
+    ensures { λ r. ⌜ r ≡ numberIn c ⌝ }
+{
+    match c {
+        Composed::Done {
+            covered: _,
+            stored: _,
+        } => 0,
+        Composed::Refused { number, place: _ } => number as u32,
+    }
+}
+
+// Its place, 0 where there is none.
+fn composed_place(c: Composed) -> u64
+    ensures { λ r. ⌜ r ≡ placeIn c ⌝ }
+{
+    match c {
+        Composed::Done {
+            covered: _,
+            stored: _,
+        } => 0,
+        Composed::Refused { number: _, place } => place,
+    }
+}
+
+// The covered count, 0 where refused.
+fn composed_covered(c: Composed) -> u64
+    ensures { λ r. ⌜ r ≡ coveredIn c ⌝ }
+{
+    match c {
+        Composed::Done { covered, stored: _ } => covered,
+        Composed::Refused {
+            number: _,
+            place: _,
+        } => 0,
+    }
+}
+
+// The store count, 0 where refused.
+fn composed_stored(c: Composed) -> u64
+    ensures { λ r. ⌜ r ≡ storedIn c ⌝ }
+{
+    match c {
+        Composed::Done { covered: _, stored } => stored,
+        Composed::Refused {
+            number: _,
+            place: _,
+        } => 0,
+    }
+}
+
+// The plain composer: bottom tile first.
+#[no_mangle]
+pub extern "C" fn czi_compose_plain(
+    file: &[u8],
+    starts: &[i32],
+    any_scene: u32,
+    pixel_type: u32,
+    background: &[u8],
+    left: i32,
+    top: i32,
+    width: u32,
+    height: u32,
+    masks: u32,
+    target: &mut [u8],
+    map: &mut [u8],
+    place: &mut u64,
+    covered: &mut u64,
+    stored: &mut u64,
+) -> u32
+    ensures { λ r. ⌜ SaidPlane plain (planeAsked (now (file .entry)) (now (starts .entry)) «any_scene» «pixel_type» (now (background .entry)) left top width height masks) (now (target .entry)) (now (map .entry)) (now (target .exit)) (now (map .exit)) r (now (place .exit)) (now (covered .exit)) (now (stored .exit)) ⌝ }
+{
+    let f = frame_of(pixel_type, left, top, width, height, masks);
+    let any = any_scene != 0;
+    let c = compose::compose_plain(file, starts, any, f, background, target, map);
+    *place = composed_place(c);
+    *covered = composed_covered(c);
+    *stored = composed_stored(c);
+    composed_number(c)
+}
+
+// The quick composer: top tile first, each pixel stored at most once.
+#[no_mangle]
+pub extern "C" fn czi_compose_quick(
+    file: &[u8],
+    starts: &[i32],
+    any_scene: u32,
+    pixel_type: u32,
+    background: &[u8],
+    left: i32,
+    top: i32,
+    width: u32,
+    height: u32,
+    masks: u32,
+    target: &mut [u8],
+    map: &mut [u8],
+    place: &mut u64,
+    covered: &mut u64,
+    stored: &mut u64,
+) -> u32
+    ensures { λ r. ⌜ SaidPlane quick (planeAsked (now (file .entry)) (now (starts .entry)) «any_scene» «pixel_type» (now (background .entry)) left top width height masks) (now (target .entry)) (now (map .entry)) (now (target .exit)) (now (map .exit)) r (now (place .exit)) (now (covered .exit)) (now (stored .exit)) ⌝ }
+{
+    let f = frame_of(pixel_type, left, top, width, height, masks);
+    let any = any_scene != 0;
+    let c = compose::compose_quick(file, starts, any, f, background, target, map);
+    *place = composed_place(c);
+    *covered = composed_covered(c);
+    *stored = composed_stored(c);
+    composed_number(c)
 }
