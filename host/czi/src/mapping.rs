@@ -1,0 +1,89 @@
+//! Files lent to a call without a copy: a read-only mapping.
+
+#![allow(unsafe_code)]
+
+use std::ffi::c_void;
+use std::fs::File;
+use std::io;
+use std::ops::Deref;
+use std::os::fd::AsRawFd;
+use std::path::Path;
+
+const PROT_READ: i32 = 1;
+const MAP_PRIVATE: i32 = 2;
+const MAP_ANONYMOUS: i32 = 0x20;
+const MAP_NORESERVE: i32 = 0x4000;
+
+extern "C" {
+    fn mmap(
+        address: *mut c_void,
+        length: usize,
+        protection: i32,
+        flags: i32,
+        file: i32,
+        offset: i64,
+    ) -> *mut c_void;
+    fn munmap(address: *mut c_void, length: usize) -> i32;
+}
+
+/// Bytes that are mapped, not read; as a slice.
+///
+/// A mapped file must not be cut or changed by others while it is mapped, as
+/// with every mapping.
+pub struct Mapping {
+    address: *mut c_void,
+    length: usize,
+}
+
+/// Maps a plain file, read-only. An empty one is an empty slice.
+///
+/// Fails where the file can't be opened or mapped, or is a folder, a device or
+/// a pipe.
+pub fn map(path: &Path) -> io::Result<Mapping> {
+    let file = File::open(path)?;
+    let about = file.metadata()?;
+    if !about.is_file() {
+        return Err(io::Error::other("it is no plain file"));
+    }
+    let length = usize::try_from(about.len()).map_err(io::Error::other)?;
+    Mapping::new(length, MAP_PRIVATE, file.as_raw_fd())
+}
+
+/// So many zero bytes, without the memory for them; for tries with lengths
+/// that no disk holds. Fails where the address space is too small.
+pub fn zeros(length: usize) -> io::Result<Mapping> {
+    Mapping::new(length, MAP_PRIVATE | MAP_ANONYMOUS | MAP_NORESERVE, -1)
+}
+
+impl Mapping {
+    fn new(length: usize, flags: i32, file: i32) -> io::Result<Mapping> {
+        if length == 0 {
+            let address = std::ptr::NonNull::dangling().as_ptr();
+            return Ok(Mapping { address, length });
+        }
+        // SAFETY: a new mapping at an address that the kernel picks.
+        let address = unsafe { mmap(std::ptr::null_mut(), length, PROT_READ, flags, file, 0) };
+        if address as isize == -1 {
+            return Err(io::Error::last_os_error());
+        }
+        Ok(Mapping { address, length })
+    }
+}
+
+impl Deref for Mapping {
+    type Target = [u8];
+
+    fn deref(&self) -> &[u8] {
+        // SAFETY: the mapping has so many bytes and lives as long as self.
+        unsafe { std::slice::from_raw_parts(self.address.cast(), self.length) }
+    }
+}
+
+impl Drop for Mapping {
+    fn drop(&mut self) {
+        if self.length != 0 {
+            // SAFETY: address and length are those of the mapping, which ends here.
+            unsafe { munmap(self.address, self.length) };
+        }
+    }
+}

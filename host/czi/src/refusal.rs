@@ -1,0 +1,113 @@
+//! Refusals: a number of paper 01's table, with its words, and a place.
+
+use std::fmt;
+
+macro_rules! reasons {
+    ($($name:ident $number:literal $words:literal)*) => {
+        /// Why something was refused: a row of paper 01's table.
+        #[derive(Clone, Copy, Debug, PartialEq, Eq)]
+        pub enum Reason {
+            $(#[doc = $words] $name,)*
+            /// A number that paper 01 does not have.
+            Other(u32),
+        }
+
+        impl Reason {
+            /// The reason of that number.
+            pub fn of_number(number: u32) -> Reason {
+                match number {
+                    $($number => Reason::$name,)*
+                    other => Reason::Other(other),
+                }
+            }
+
+            /// The number in the table.
+            pub fn number(self) -> u32 {
+                match self {
+                    $(Reason::$name => $number,)*
+                    Reason::Other(number) => number,
+                }
+            }
+
+            /// The paper's words for it.
+            pub fn words(self) -> &'static str {
+                match self {
+                    $(Reason::$name => $words,)*
+                    Reason::Other(_) => "not in paper 01",
+                }
+            }
+        }
+    };
+}
+
+reasons! {
+    Length 1 "length 0, not a multiple of 32, or above 2^40"
+    Name 2 "unknown name"
+    SegmentSizes 3 "AllocatedSize negative or not a multiple of 32; UsedSize negative or larger; end past the file"
+    SegmentCount 4 "more than 8,192 segments"
+    FileSegment 5 "first isn't the file segment, a later one is, or its room is under 80"
+    Major 6 "Major not 1"
+    FilePart 7 "a FilePart not 0"
+    UpdatePending 8 "UpdatePending not 0"
+    Position 9 "a position names no walked segment of its kind"
+    Directory 10 "a directory's fixed part or entries don't fit its room; EntryCount negative or over 4,096; the metadata segment's sizes negative, or 256 plus both over its room"
+    Entry 11 "entry not well formed"
+    PixelType 12 "pixel type not listed"
+    Compression 13 "compression not 0"
+    NamedSegment 14 "entry names no walked segment of its kind"
+    Copy 15 "fixed part doesn't fit the room, or the copy differs"
+    Sizes 16 "sizes negative, don't fit, or DataSize wrong"
+    Chunk 17 "chunk not as the rules say"
+    Mask 18 "mask not as the rules say"
+    Window 20 "window side not 1 to 65,536, or right or bottom edge above 2,147,483,647"
+    AskedType 21 "asked type not listed, or background not one pixel long"
+    Lent 22 "target or map too short"
+    AnotherType 23 "a selected tile that meets the window has another type"
+    NoEntry 24 "no entry of that number, counted from 0"
+    TooLong 30 "listing only: input over 65,536 bytes"
+}
+
+/// Why something was refused, and where.
+#[derive(Clone, Copy, Debug, PartialEq, Eq)]
+pub struct Refusal {
+    /// The row of the table.
+    pub reason: Reason,
+    /// A byte offset in the file; for a segment or an entry that of its first byte.
+    pub place: u64,
+}
+
+impl Refusal {
+    /// The refusal of that number at that place.
+    pub fn new(number: u32, place: u64) -> Refusal {
+        Refusal {
+            reason: Reason::of_number(number),
+            place,
+        }
+    }
+}
+
+impl fmt::Display for Refusal {
+    fn fmt(&self, f: &mut fmt::Formatter<'_>) -> fmt::Result {
+        let (number, words) = (self.reason.number(), self.reason.words());
+        write!(f, "refused {number} at {}: {words}", self.place)
+    }
+}
+
+impl std::error::Error for Refusal {}
+
+#[cfg(test)]
+mod tests {
+    use super::Reason;
+
+    #[test]
+    fn numbers_come_back() {
+        for number in (0..40).chain([u32::MAX]) {
+            assert_eq!(Reason::of_number(number).number(), number);
+        }
+        let other = |n: &u32| matches!(Reason::of_number(*n), Reason::Other(_));
+        assert_eq!(
+            (1..=30).filter(other).collect::<Vec<_>>(),
+            [19, 25, 26, 27, 28, 29]
+        );
+    }
+}

@@ -1,0 +1,57 @@
+//! The stored samples through the wrapper.
+
+use std::fs;
+use std::path::PathBuf;
+
+fn sample(name: &str) -> Vec<u8> {
+    let folder = PathBuf::from(env!("CARGO_MANIFEST_DIR")).join("../samples");
+    fs::read(folder.join(name)).expect("a stored sample")
+}
+
+#[test]
+fn every_sample_is_listed_as_stored() {
+    let folder = PathBuf::from(env!("CARGO_MANIFEST_DIR")).join("../samples");
+    let mut listed = 0;
+    for entry in fs::read_dir(folder).expect("the samples") {
+        let path = entry.expect("a sample").path();
+        if path.extension().is_some_and(|e| e == "czi") {
+            let wanted = fs::read_to_string(path.with_extension("txt")).expect("its listing");
+            let mapped = czi::map(&path).expect("a mapping");
+            assert_eq!(czi::list(&mapped), wanted, "{}", path.display());
+            listed += 1;
+        }
+    }
+    assert!(listed >= 10);
+}
+
+#[test]
+fn a_tile_and_its_parts() {
+    let file = sample("mosaic.czi");
+    let summary = czi::summary(&file).unwrap();
+    assert_eq!(summary.bytes, file.len() as u64);
+    for entry in 0..summary.tiles {
+        let tile = czi::tile(&file, entry).unwrap();
+        assert_eq!(tile.entry, entry);
+        let pixels = czi::tile_pixels(&file, entry).unwrap();
+        assert_eq!(pixels.as_ptr_range(), file[tile.pixels].as_ptr_range());
+        let area = tile.x.stored * tile.y.stored;
+        assert_eq!(pixels.len() as u64, area * tile.pixel_type.bytes() as u64);
+        let letters: Vec<char> = (0..tile.dimensions)
+            .map(|k| czi::dimension(&file, entry, k).unwrap().letter)
+            .collect();
+        assert!(letters.contains(&'X') && letters.contains(&'Y'));
+    }
+    let refusal = czi::tile(&file, summary.tiles).unwrap_err();
+    assert_eq!(refusal, czi::Refusal::new(24, 0));
+}
+
+#[test]
+fn a_refused_file_is_refused_by_all() {
+    let file = sample("refusal-09.czi");
+    let refusal = czi::judge(&file).unwrap_err();
+    assert_eq!(refusal.reason, czi::Reason::Position);
+    assert_eq!(czi::summary(&file).unwrap_err(), refusal);
+    assert_eq!(czi::tile_pixels(&file, 0).unwrap_err(), refusal);
+    assert_eq!(czi::common_xml(&file).unwrap_err(), refusal);
+    assert_eq!(czi::judge(&[]).unwrap_err(), czi::Refusal::new(1, 0));
+}

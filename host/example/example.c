@@ -1,0 +1,117 @@
+/* Lists a CZI file, composes the whole of its box in the type of its first tile, with masks on,
+ * and prints how many pixels a tile gave and whether both composers agree.
+ *
+ *   cc -Wall -Wextra -Werror -Iinclude host/example/example.c target/staticlib/libczi.a -o example
+ *   ./example host/samples/mosaic.czi
+ */
+#include <stdio.h>
+#include <stdlib.h>
+#include <string.h>
+
+#include "czi.h"
+
+/* No pixel has more bytes: type 11. */
+enum { MOST_BYTES_A_PIXEL = 24 };
+
+/* The bytes of a pixel by type. */
+static size_t bytes_a_pixel(uint64_t type) {
+    switch (type) {
+    case 0: return 1;
+    case 1: return 2;
+    case 2: return 4;
+    case 3: return 3;
+    case 4: return 6;
+    case 8: return 12;
+    case 9: return 4;
+    case 10: return 8;
+    default: return MOST_BYTES_A_PIXEL;
+    }
+}
+
+/* The whole file, never NULL; the program ends where it can't be read. */
+static uint8_t *read_file(const char *path, size_t *length) {
+    FILE *from = fopen(path, "rb");
+    uint8_t *bytes = malloc(1);
+    size_t room = 1, got;
+    *length = 0;
+    while (from != NULL && bytes != NULL && (got = fread(bytes + *length, 1, room - *length, from)) > 0) {
+        *length += got;
+        if (*length == room) {
+            room *= 2;
+            bytes = realloc(bytes, room);
+        }
+    }
+    if (from == NULL || bytes == NULL || ferror(from)) {
+        perror(path);
+        exit(1);
+    }
+    fclose(from);
+    return bytes;
+}
+
+static int refused(uint32_t number, uint64_t place) {
+    fprintf(stderr, "refused %u at %llu\n", (unsigned)number, (unsigned long long)place);
+    return 2;
+}
+
+/* Composes the box both ways and prints the covered count. */
+static int compose(const uint8_t *file, size_t length) {
+    uint64_t place, bytes, segments, tiles, attachments, has_box;
+    int32_t left, top, right, bottom;
+    uint32_t number = czi_summary(file, length, &place, &bytes, &segments, &tiles, &attachments, &has_box,
+                                  &left, &top, &right, &bottom);
+    if (number != 0) return refused(number, place);
+    if (!has_box) {
+        puts("covered=0");
+        return 0;
+    }
+    uint64_t numbers[CZI_TILE_NUMBERS];
+    int32_t starts[CZI_TILE_STARTS];
+    number = czi_tile(file, length, 0, &place, numbers, starts);
+    if (number != 0) return refused(number, place);
+
+    uint32_t type = (uint32_t)numbers[CZI_TILE_PIXEL_TYPE];
+    uint32_t width = (uint32_t)right - (uint32_t)left, height = (uint32_t)bottom - (uint32_t)top;
+    size_t pixel = bytes_a_pixel(type), pixels = (size_t)width * height;
+    size_t target_length = pixels * pixel, map_length = (pixels + 7) / 8;
+    const uint8_t background[MOST_BYTES_A_PIXEL] = {0};
+    const int32_t asked[1] = {0}; /* a start for A; the letters behind it are at 0 too */
+    uint8_t *target[2], *map[2];
+    uint64_t covered[2], stored[2];
+    for (int quick = 0; quick < 2; quick++) {
+        target[quick] = malloc(target_length);
+        map[quick] = malloc(map_length);
+        if (target[quick] == NULL || map[quick] == NULL) {
+            perror("memory");
+            return 1;
+        }
+        number = (quick ? czi_compose_quick : czi_compose_plain)(
+            file, length, asked, 1, 1, type, background, pixel, left, top, width, height, CZI_MASKS_ON,
+            target[quick], target_length, map[quick], map_length, &place, &covered[quick], &stored[quick]);
+        if (number != 0) return refused(number, place);
+    }
+    int agree = covered[0] == covered[1] && memcmp(target[0], target[1], target_length) == 0
+                && memcmp(map[0], map[1], map_length) == 0;
+    printf("covered=%llu\n", (unsigned long long)covered[0]);
+    printf("stored=%llu,%llu\n", (unsigned long long)stored[0], (unsigned long long)stored[1]);
+    printf("agree=%s\n", agree ? "yes" : "no");
+    for (int quick = 0; quick < 2; quick++) {
+        free(target[quick]);
+        free(map[quick]);
+    }
+    return agree ? 0 : 1;
+}
+
+int main(int count, char **arguments) {
+    if (count != 2) {
+        fprintf(stderr, "usage: example FILE\n");
+        return 1;
+    }
+    size_t length;
+    uint8_t *file = read_file(arguments[1], &length);
+    uint8_t text[CZI_TEXT];
+    fwrite(text, 1, czi_list(file, length, text), stdout);
+    int status = compose(file, length);
+    free(file);
+    return status;
+}
