@@ -145,6 +145,10 @@ module _ (a : Asked) (t m table : List ℕ) (w : Rect) (e : windowOf w ≡ asked
     unfolding answer targetAfter mapAfter
     done = record {
       answer-is = rw (v, ← whole-call, ← e, ← d .covered-is);
+      number-is = rw v;
+      place-is = rw v;
+      covered-is = rw (v, ← whole-call, ← e, ← d .covered-is);
+      stored-is = rw (v, ← whole-call);
       target-is = rw (v, ← whole-call);
       map-is = rw (v, ← whole-call);
     }
@@ -153,7 +157,7 @@ module _ (a : Asked) (t m table : List ℕ) (w : Rect) (e : windowOf w ≡ asked
 
 pub refused : (k : Kind) (a : Asked) (t m : List ℕ) (n p : ℕ) → callVerdict a (length t) (length m) ≡ Refused n p → Answered k a t m t m (Ans.Refused n p)
 unfolding answer targetAfter mapAfter
-refused k a t m n p v = record { answer-is = rw v; target-is = rw v; map-is = rw v }
+refused k a t m n p v = record { answer-is = rw v; number-is = rw v; place-is = rw v; covered-is = rw v; stored-is = rw v; target-is = rw v; map-is = rw v }
 
 -- ---- between the stages
 

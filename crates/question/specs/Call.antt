@@ -5,7 +5,7 @@ use mathlib.Core.List.{List, _++_}
 use mathlib.Core.Bool.{Bool}
 use lib.ListN.{length}
 use lib.IntN.{ℤ}
-use Rattle.format.specs.Checks.{first, ifAccepted}
+use Rattle.format.specs.Checks.{first, ifAccepted, numberOf, placeOf}
 use Rattle.format.specs.Entry.{pixelBytes}
 use Rattle.format.specs.Directory.{tileCount, entryPlace}
 use Rattle.format.specs.Rules.{checks}
@@ -88,8 +88,12 @@ abbrev pub storedIn : Composed → ℕ
 storedIn (Ans.Done covered stored) = stored
 storedIn (Ans.Refused n p) = 0
 
--- a composer's promise: its answer r and the end state of what was lent
+-- a composer's promise: its answer r, that answer's number, place and counts, and the end state of what was lent
 pub record Answered (k : Kind) (a : Asked) (t m t′ m′ : List ℕ) (r : Composed) : Type 0 where
   pub answer-is : r ≡ answer k a t m
+  pub number-is : numberIn r ≡ numberOf (callVerdict a (length t) (length m))
+  pub place-is : placeIn r ≡ placeOf (callVerdict a (length t) (length m))
+  pub covered-is : coveredIn r ≡ ifAccepted (callVerdict a (length t) (length m)) (ones (area (askedWindow a)) (painted k a t m .map)) 0
+  pub stored-is : storedIn r ≡ ifAccepted (callVerdict a (length t) (length m)) (painted k a t m .stored) 0
   pub target-is : t′ ≡ targetAfter k a t m
   pub map-is : m′ ≡ mapAfter k a t m

@@ -1,5 +1,6 @@
 //! Files at the limits, and inputs too long to list or to judge.
 
+use crate::planes;
 use crate::reader;
 use crate::report::Report;
 use generate::damage::EXTERNAL_CLAUSE;
@@ -15,7 +16,11 @@ pub fn check(sound: &Sound, random: &mut Random, report: &mut Report) {
         if let Some(bytes) = limit.reach(sound, random) {
             report.at(limit.name, &bytes);
             match reader::check(&bytes, report) {
-                Ok(()) => report.limits.add(limit.name),
+                Ok(()) => {
+                    report.limits.add(limit.name);
+                    planes::check_damaged(sound, &bytes, false, random, report);
+                    report.outcomes.add("a question to a file at a limit");
+                }
                 Err(refusal) => report.differs(refusal),
             }
         }

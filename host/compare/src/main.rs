@@ -84,10 +84,10 @@ mod tests {
     use super::*;
 
     #[test]
-    fn six_hundred_files_reach_every_clause() {
+    fn two_thousand_files_reach_every_clause() {
         let report = run(&Options {
             first: 1_000_000,
-            files: 600,
+            files: 2_000,
             questions: 5,
             replay: false,
         });

@@ -24,6 +24,7 @@ pub fn check(sound: &Sound, random: &mut Random, questions: u64, report: &mut Re
         }
         check_drawn(sound, &file, &ask, random, report);
     }
+    check_two_clauses(sound, &file, random, report);
     for clause in ask_clauses() {
         // Some of them, so that all have their turn over the files.
         if random.percent(20) {
@@ -40,6 +41,30 @@ pub fn check(sound: &Sound, random: &mut Random, questions: u64, report: &mut Re
                 }
             }
         }
+    }
+}
+
+/// Two clauses at once: the lesser number is given.
+fn check_two_clauses(
+    sound: &Sound,
+    file: &Result<File, Refusal>,
+    random: &mut Random,
+    report: &mut Report,
+) {
+    let clauses = ask_clauses();
+    let mut two = [random.below(clauses.len()), random.below(clauses.len())];
+    two.sort();
+    let [first, second] = two.map(|k| &clauses[k]);
+    if first.number == second.number {
+        return;
+    }
+    let drawn = draw(sound, random);
+    let spoiled = second.spoil(sound, random, drawn);
+    if let Some(ask) = spoiled.and_then(|ask| first.spoil(sound, random, ask)) {
+        let refusal = compose(&sound.bytes, file, &ask, random, report).err();
+        let number = refusal.map(|r| r.number);
+        report.compare("two clauses at once", &number, &Some(first.number));
+        report.outcomes.add("two clauses at once");
     }
 }
 

@@ -11,7 +11,7 @@ use std::path::PathBuf;
 const MOST_PRINTED: usize = 20;
 
 /// The names of what a composed plane may show.
-const OUTCOMES: [&str; 11] = [
+const OUTCOMES: [&str; 13] = [
     "answered",
     "refused",
     "no pixel covered",
@@ -23,6 +23,8 @@ const OUTCOMES: [&str; 11] = [
     "buffers longer than needed",
     "a buffer one byte short",
     "a question to a refused file",
+    "two clauses at once",
+    "a question to a file at a limit",
 ];
 
 /// Counts and differences.

@@ -151,7 +151,9 @@ fn mark(sound: &Sound, random: &mut Random) -> Option<Damage> {
 fn name(sound: &Sound, random: &mut Random) -> Option<Damage> {
     let (damage, entry) = some_entry(sound, random, Step::WellFormed)?;
     let name = random.bytes(80).iter().map(|b| b | 1).collect::<Vec<u8>>();
-    Some(damage.write(entry.place + 48, &name))
+    // The file type before it may end in a zero byte, which is none of the name's.
+    let before = random.pick(&[0, 0x41]);
+    Some(damage.write(entry.place + 47, &[&[before], &name[..]].concat()))
 }
 
 fn file_part(sound: &Sound, random: &mut Random) -> Option<Damage> {
