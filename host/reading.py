@@ -185,8 +185,12 @@ class Reading:
 
 def listing(file):
     """The listing's text, as bytes."""
+    return b"refused=30\nplace=0\n" if len(file) > 65536 else figures(file)
+
+
+def figures(file):
+    """The same text for a file of any size."""
     try:
-        refuse(len(file) > 65536, 30, 0)
         read = Reading(file)
     except Refused as r:
         return b"refused=%d\nplace=%d\n" % (r.number, r.place)

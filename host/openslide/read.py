@@ -2,9 +2,12 @@
 
     python3 read.py FOLDER      for each FOLDER/NAME.czi, writes FOLDER/NAME.argb and prints
                                 NAME WIDTH HEIGHT, or NAME: and OpenSlide's error or the signal that ended it
+    python3 read.py --windows FILE
+                                prints WIDTH HEIGHT, or refused: and OpenSlide's error; then, for each line
+                                LEFT TOP WIDTH HEIGHT of standard input, writes that window's pixels
     python3 read.py --version
 
-The .argb file has OpenSlide's answer as it gave it: level 0 entire, 32 bits a pixel.
+The .argb file has OpenSlide's answer as it gave it: level 0 entire, 32 bits a pixel. Windows are of level 0 too.
 """
 import ctypes
 import os
@@ -17,7 +20,6 @@ for name in ["openslide_get_version", "openslide_get_error", "openslide_detect_v
     getattr(library, name).restype = ctypes.c_char_p
 library.openslide_open.restype = ctypes.c_void_p
 library.openslide_get_error.argtypes = [ctypes.c_void_p]
-library.openslide_close.argtypes = [ctypes.c_void_p]
 library.openslide_get_level0_dimensions.argtypes = [ctypes.c_void_p] + 2 * [ctypes.POINTER(ctypes.c_int64)]
 library.openslide_read_region.argtypes = [ctypes.c_void_p, ctypes.c_void_p] + [
     ctypes.c_int64, ctypes.c_int64, ctypes.c_int32, ctypes.c_int64, ctypes.c_int64]
@@ -27,26 +29,48 @@ class Failed(Exception):
     pass
 
 
+class Slide:
+    """An open file, with level 0's width and height."""
+
+    def __init__(self, path):
+        self.handle = library.openslide_open(os.fsencode(path))
+        if not self.handle:
+            raise Failed("no format is recognised")
+        self.check()
+        width, height = ctypes.c_int64(), ctypes.c_int64()
+        library.openslide_get_level0_dimensions(self.handle, ctypes.byref(width), ctypes.byref(height))
+        self.check()
+        self.width, self.height = width.value, height.value
+
+    def check(self):
+        error = library.openslide_get_error(self.handle)
+        if error is not None:
+            raise Failed(error.decode())
+
+    def window(self, left, top, width, height):
+        """The window's pixels, from level 0's corner."""
+        pixels = ctypes.create_string_buffer(width * height * 4)
+        library.openslide_read_region(self.handle, pixels, left, top, 0, width, height)
+        self.check()
+        return pixels.raw
+
+
 def read(path):
     """Width, height and pixels."""
-    slide = library.openslide_open(bytes(path))
-    if not slide:
-        raise Failed("no format is recognised")
+    slide = Slide(path)
+    return slide.width, slide.height, slide.window(0, 0, slide.width, slide.height)
+
+
+def windows(path):
     try:
-        def check():
-            error = library.openslide_get_error(slide)
-            if error is not None:
-                raise Failed(error.decode())
-        check()
-        width, height = ctypes.c_int64(), ctypes.c_int64()
-        library.openslide_get_level0_dimensions(slide, ctypes.byref(width), ctypes.byref(height))
-        check()
-        pixels = ctypes.create_string_buffer(width.value * height.value * 4)
-        library.openslide_read_region(slide, pixels, 0, 0, 0, width.value, height.value)
-        check()
-        return width.value, height.value, pixels.raw
-    finally:
-        library.openslide_close(slide)
+        slide = Slide(path)
+        sys.stdout.buffer.write(b"%d %d\n" % (slide.width, slide.height))
+        sys.stdout.buffer.flush()
+        for line in sys.stdin:
+            sys.stdout.buffer.write(slide.window(*map(int, line.split())))
+            sys.stdout.buffer.flush()
+    except Failed as error:
+        print("refused: %s" % error)
 
 
 def answer(path):
@@ -62,6 +86,9 @@ def answer(path):
 def main():
     if sys.argv[1] == "--version":
         print(library.openslide_get_version().decode())
+        return
+    if sys.argv[1] == "--windows":
+        windows(sys.argv[2])
         return
     for path in sorted(Path(sys.argv[1]).glob("*.czi")):
         # In a process of its own: some files end it.

@@ -28,10 +28,10 @@ fn main() {
         (PixelType::Bgr24, 3),
         (PixelType::Bgr48, 4),
     ] {
-        compose(pixel_type, of, TileMasks::None);
+        for masks in [TileMasks::None, TileMasks::AllValid, TileMasks::HalfValid] {
+            compose(pixel_type, of, masks);
+        }
     }
-    compose(PixelType::Gray16, 1, TileMasks::AllValid);
-    compose(PixelType::Gray16, 1, TileMasks::HalfValid);
 }
 
 /// One row: a file at the limits of segments and entries.
