@@ -1,9 +1,6 @@
 //! Mosaics to measure with: a grid of tiles that overlap, with masks or without.
 
-use generate::{bytes_a_pixel, Kind, Random};
-
-const MARKER: &[u8] = b"<DataFormat>CHUNKCONTAINER</DataFormat>";
-const MASK_GUID: [u8; 16] = *b"\x67\xEA\xE3\xCB\xFC\x5B\x2B\x49\xA1\x6A\xEC\xE3\x78\x03\x14\x48";
+use generate::{bytes_a_pixel, Kind, Random, MARKER, MASK_GUID};
 
 /// What the masks of a mosaic's tiles are.
 #[derive(Clone, Copy, Debug, PartialEq, Eq)]

@@ -24,7 +24,7 @@ mod text;
 mod tile;
 
 pub use draft::sound;
-pub use format::{bytes_a_pixel, Kind, PIXEL_TYPES};
+pub use format::{bytes_a_pixel, Kind, MARKER, MASK_GUID, PIXEL_TYPES};
 pub use freedoms::{freedoms, freedoms_of};
 pub use limits::{Limit, LIMITS, LISTING_CLAUSES};
 pub use random::Random;
