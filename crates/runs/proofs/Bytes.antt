@@ -1,0 +1,208 @@
+-- Runs of bits within a byte, and bytes whose bits are all the same.
+use mathlib.Core.Path.{_≡_, refl, sym, ap, ap₂, _∙_, subst}
+use Prim.Native.Nat.{ℕ, zero, suc, _+_, _*_, _-_, _/_, _%_, _^_, _≤_, _<_}
+use native.Mathlib.Nat.{div-eq-of-lt, div-eq-of-lt-le, lt-of-lt-of-le, lt-of-not-le, mod-lt, pow-suc}
+use native.Mathlib.Decide.{decLt}
+use native.Mathlib.Omega.{arith}
+use mathlib.Core.List.{List}
+use mathlib.Core.Bool.{Bool, true, false, not, cond}
+use lib.Dec.{eqb}
+use lib.Pow.{field, mod-mod-pow, pow-add, pow-mono, pow-pos, shl-shr}
+use lib.Count.{leadingZeros, leading-length}
+use lib.ListN.{length, getD}
+use borrow.Author.Tests.{eqb-true, eqb-false}
+use Rattle.plane.specs.Sums.{one}
+use Rattle.plane.specs.Paint.{bit, bitIn, pack}
+use Rattle.plane.proofs.SumLaws.{one-le}
+use Rattle.plane.proofs.BitLaws.{bit-pack, pack-bits, same-bits}
+use Rattle.plane.proofs.PaintLaws.{Bytes, cell, zero-bits}
+use Rattle.format.specs.Bytes.{u32At, u64At}
+use Rattle.runs.specs.Run.{Run, full, fullWord, differing}
+use Rattle.runs.proofs.Runs.{run-empty, run-cut, run-stops, run-on}
+
+-- ---- a byte's bits that differ
+
+one-not : (b : Bool) → one b + one (not b) ≡ 1
+one-not true = refl
+one-not false = refl
+
+pack-not : (f : ℕ → Bool) → 255 - pack f ≡ pack (λ i. not (f i))
+unfolding pack
+pack-not f =
+    omega (arith, one-not (f 0), one-not (f 1), one-not (f 2), one-not (f 3), one-not (f 4), one-not (f 5), one-not (f 6), one-not (f 7))
+
+bit-not : (x : ℕ) → x < 256 → (i : ℕ) → i < 8 → bitIn (255 - x) i ≡ not (bitIn x i)
+bit-not x h i l = ap (λ (y : ℕ). bitIn (255 - y) i) (pack-bits x h) ∙ ap (λ (y : ℕ). bitIn y i) (pack-not (bitIn x)) ∙ bit-pack _ i l
+
+not-zero : (b v : Bool) → not b ≡ v → b ≡ not v
+not-zero true v e = ap not e
+not-zero false v e = ap not e
+
+pub run-differing : (x : ℕ) → x < 256 → (v : Bool) (a r : ℕ) → Run (bitIn (differing x v)) a 8 false r → Run (bitIn x) a 8 v r
+run-differing x h false a r o = o
+run-differing x h true a r o = record {
+  start = o .start;
+  end = o .end;
+  same = λ i b c. not-zero (bitIn x i) false (sym (bit-not x h i (omega (arith, o .end))) ∙ o .same i b c);
+  stops = λ l. not-zero (bitIn x r) true (sym (bit-not x h r l) ∙ o .stops l);
+}
+
+pub differing-lt : (x : ℕ) → x < 256 → (v : Bool) → differing x v < 256
+differing-lt x h true = omega arith
+differing-lt x h false = h
+
+-- ---- the first one of a byte's last bits
+
+-- the divisor that leaves the bits from number a on
+pub last-bits : (a : ℕ) → a < 8 → 256 / 2 ^ a ≡ 2 ^ (8 - a)
+last-bits a h = ap (λ (y : ℕ). y / 2 ^ a) (ap (λ (k : ℕ). 2 ^ k) {x = 8} {y = (8 - a) + a} (omega arith) ∙ pow-add 2 (8 - a) a) ∙ shl-shr (2 ^ (8 - a)) a
+
+-- it leaves them as they are
+kept : (y a i : ℕ) → a ≤ i → i < 8 → bitIn (y % 2 ^ (8 - a)) i ≡ bitIn y i
+unfolding bitIn
+kept y a i h l =
+    ap (λ (x : ℕ). eqb x 1)
+    (ap (λ (k : ℕ). y % 2 ^ k / 2 ^ (7 - i) % 2) {x = 8 - a} {y = (i + 1 - a) + (7 - i)} (omega arith)
+    ∙ ap (λ (x : ℕ). x % 2) (field y (i + 1 - a) (7 - i))
+    ∙ ap (λ (k : ℕ). y / 2 ^ (7 - i) % 2 ^ k % 2) {x = i + 1 - a} {y = (i - a) + 1} (omega arith)
+    ∙ mod-mod-pow (y / 2 ^ (7 - i)) (i - a) 1)
+
+-- the leading zeros of a number end at its first one
+zeros-end : (z : ℕ) → z < 256 → (i : ℕ) → i < leadingZeros 8 z → bitIn z i ≡ false
+unfolding bitIn
+zeros-end z h i l =
+    let t = leading-length 8 z h in
+    ap (λ (x : ℕ). eqb (x % 2) 1) (div-eq-of-lt (lt-of-lt-of-le (t .2) (pow-mono {i = t .0} {j = 7 - i} (omega (arith, t .1)))))
+
+ones-start : (z : ℕ) → z < 256 → leadingZeros 8 z < 8 → bitIn z (leadingZeros 8 z) ≡ true
+unfolding bitIn
+ones-start z h l =
+    let t = leading-length 8 z h in
+    let e : 7 - leadingZeros 8 z ≡ t .0 - 1 = omega (arith, t .1) in
+    let p : 2 ^ t .0 ≡ 2 ^ (t .0 - 1) * 2 = ap (λ (k : ℕ). 2 ^ k) {x = t .0} {y = suc (t .0 - 1)} (omega (arith, t .1)) ∙ pow-suc 2 (t .0 - 1) in
+    ap (λ (x : ℕ). eqb (x % 2) 1)
+    (ap (λ (k : ℕ). z / 2 ^ k) e ∙ div-eq-of-lt-le {k = 1} (2 ^ (t .0 - 1)) (omega (arith, t .3, p)) (omega (arith, t .2, p)))
+
+-- the leading zeros of what is left end at the first one from number a on
+pub run-zeros : (y : ℕ) → y < 256 → (a : ℕ) → a < 8 → Run (bitIn y) a 8 false (leadingZeros 8 (y % 2 ^ (8 - a)))
+run-zeros y h a l = record {
+  start = begins (decLt (8 - a) (t .0));
+  end = omega (arith, t .1);
+  same = λ i b c. sym (kept y a i b (omega (arith, t .1))) ∙ zeros-end z small i c;
+  stops = λ c. sym (kept y a _ (begins (decLt (8 - a) (t .0))) c) ∙ ones-start z small c;
+}
+  where
+    z : ℕ
+    z = y % 2 ^ (8 - a)
+
+    under : z < 2 ^ (8 - a)
+    under = mod-lt y (pow-pos (8 - a))
+
+    small : z < 256
+    small = lt-of-lt-of-le under (pow-mono {i = 8 - a} {j = 8} (omega arith))
+
+    t : (m : ℕ) × (leadingZeros 8 z + m ≡ 8) × (z < 2 ^ m) × (2 ^ m ≤ 2 * z + 1)
+    t = leading-length 8 z small
+
+    begins : Dec (8 - a < t .0) → a ≤ leadingZeros 8 z
+    begins (yes c) =
+        let p : 2 ^ (8 - a) * 2 ≤ 2 ^ t .0 = subst (λ (x : ℕ). x ≤ 2 ^ t .0) (pow-suc 2 (8 - a)) (pow-mono c) in
+        absurd (omega (arith, p, t .3, under))
+    begins (no c) = omega (arith, t .1, lt-of-not-le c)
+
+-- ---- bytes whose bits are all v
+
+pub full-bits : (v : Bool) (i : ℕ) → i < 8 → bitIn (full v) i ≡ v
+unfolding pack
+full-bits true i h = bit-pack (λ _. true) i h
+full-bits false i h = zero-bits i
+
+pub full-lt : (v : Bool) → full v < 256
+full-lt true = omega arith
+full-lt false = omega arith
+
+-- a byte that is not such a byte has another bit
+pub not-full : (x : ℕ) → x < 256 → (v : Bool) (r : ℕ) → eqb x (full v) ≡ false → Run (bitIn x) 0 8 v r → r < 8
+not-full x h v r n o = go (decLt r 8)
+  where
+    go : Dec (r < 8) → r < 8
+    go (yes l) = l
+    go (no l) =
+        absurd (eqb-false x (full v) n (same-bits x (full v) h (full-lt v) (λ i c. o .same i (omega arith) (omega (arith, lt-of-not-le l)) ∙ sym (full-bits v i c))))
+
+-- the bytes of half a word, and of a word
+half-bytes : (m : List ℕ) → Bytes m → (v : Bool) (k : ℕ) → u32At m k ≡ cond v 4294967295 0 → (d : ℕ) → d < 4 → getD m (k + d) 0 ≡ full v
+unfolding u32At
+half-bytes m h true k e zero l = ap (λ (j : ℕ). getD m j 0) {x = k + 0} {y = k} (omega arith) ∙ omega (arith, h k, h (k + 1), h (k + 2), h (k + 3), e)
+half-bytes m h true k e (suc zero) l = omega (arith, h k, h (k + 1), h (k + 2), h (k + 3), e)
+half-bytes m h true k e (suc (suc zero)) l = omega (arith, h k, h (k + 1), h (k + 2), h (k + 3), e)
+half-bytes m h true k e (suc (suc (suc zero))) l = omega (arith, h k, h (k + 1), h (k + 2), h (k + 3), e)
+half-bytes m h false k e zero l = ap (λ (j : ℕ). getD m j 0) {x = k + 0} {y = k} (omega arith) ∙ omega (arith, e)
+half-bytes m h false k e (suc zero) l = omega (arith, e)
+half-bytes m h false k e (suc (suc zero)) l = omega (arith, e)
+half-bytes m h false k e (suc (suc (suc zero))) l = omega (arith, e)
+half-bytes m h v k e (suc (suc (suc (suc d)))) l = absurd (omega arith)
+
+half-lt : (m : List ℕ) → Bytes m → (k : ℕ) → u32At m k < 4294967296
+unfolding u32At
+half-lt m h k = omega (arith, h k, h (k + 1), h (k + 2), h (k + 3))
+
+halves : (v : Bool) (x y : ℕ) → x < 4294967296 → y < 4294967296 → x + 4294967296 * y ≡ fullWord v → (x ≡ cond v 4294967295 0) × (y ≡ cond v 4294967295 0)
+halves true x y h l e = (omega arith, omega arith)
+halves false x y h l e = (omega arith, omega arith)
+
+pub word-bytes : (m : List ℕ) → Bytes m → (v : Bool) (k : ℕ) → u64At m k ≡ fullWord v → (i : ℕ) → k ≤ i → i < k + 8 → getD m i 0 ≡ full v
+unfolding u64At
+word-bytes m h v k e i a b = go (decLt i (k + 4))
+  where
+    both : (u32At m k ≡ cond v 4294967295 0) × (u32At m (k + 4) ≡ cond v 4294967295 0)
+    both = halves v (u32At m k) (u32At m (k + 4)) (half-lt m h k) (half-lt m h (k + 4)) e
+
+    go : Dec (i < k + 4) → getD m i 0 ≡ full v
+    go (yes c) = ap (λ (j : ℕ). getD m j 0) {x = i} {y = k + (i - k)} (omega arith) ∙ half-bytes m h v k (both .0) (i - k) (omega arith)
+    go (no c) =
+        ap (λ (j : ℕ). getD m j 0) {x = i} {y = k + 4 + (i - (k + 4))} (omega (arith, lt-of-not-le c)) ∙ half-bytes m h v (k + 4) (both .1) (i - (k + 4)) (omega (arith, lt-of-not-le c))
+
+-- ---- from bytes to the map's bits
+
+-- a run within byte k
+pub run-at : (m : List ℕ) (k a s : ℕ) (v : Bool) (r : ℕ) → s ≡ 8 * k + a → Run (bitIn (getD m k 0)) a 8 v r → Run (bit m) s (8 * k + 8) v (8 * k + r)
+run-at m k a s v r e o = record {
+  start = omega (arith, o .start);
+  end = omega (arith, o .end);
+  same = λ i b c.
+      ap (bit m) {x = i} {y = 8 * k + (i - 8 * k)} (omega arith) ∙ sym (cell k (i - 8 * k) (omega (arith, o .end)) m)
+      ∙ o .same (i - 8 * k) (omega arith) (omega arith);
+  stops = λ c. sym (cell k r (omega arith) m) ∙ o .stops (omega arith);
+}
+
+-- bytes that are full
+pub bytes-run : (m : List ℕ) (k j : ℕ) (v : Bool) → ((i : ℕ) → k ≤ i → i < j → eqb (getD m i 0) (full v) ≡ true) → (p : ℕ) → 8 * k ≤ p → p < 8 * j → bit m p ≡ v
+unfolding bit
+bytes-run m k j v h p a b =
+    ap (λ (x : ℕ). bitIn x (p % 8)) (eqb-true (getD m (p / 8) 0) (full v) (h (p / 8) (omega arith) (omega arith))) ∙ full-bits v (p % 8) (omega arith)
+
+-- full bytes, and then a run in the byte behind them: e is where the bits end
+module _ (m : List ℕ) (h : Bytes m) (k j e : ℕ) (v : Bool) (o : Run (λ i. eqb (getD m i 0) (full v)) k (e / 8) true j) where
+  passed : (p : ℕ) → 8 * k ≤ p → p < 8 * j → bit m p ≡ v
+  passed = bytes-run m k j v (o .same)
+
+  pub run-bytes : 8 * j ≡ e → Run (bit m) (8 * k) e v e
+  run-bytes z = run-on passed (omega (arith, o .start)) (run-empty z)
+
+  module _ (r : ℕ) (q : Run (bitIn (getD m j 0)) 0 8 v r) where
+    pub run-over : e - 8 * j ≤ r → Run (bit m) (8 * k) e v e
+    run-over l = run-on passed (omega (arith, o .start)) (run-cut (run-at m j 0 (8 * j) v r (omega arith) q) (omega (arith, o .end)) (omega arith))
+
+    pub run-in-last : r < e - 8 * j → Run (bit m) (8 * k) e v (8 * j + r)
+    run-in-last l =
+        run-on passed (omega (arith, o .start)) (run-stops (run-at m j 0 (8 * j) v r (omega arith) q) (omega (arith, before (decLt r 8))) (omega arith))
+      where
+        before : Dec (r < 8) → r < 8
+        before (yes b) = b
+        before (no b) = not-full (getD m j 0) (h j) v r (o .stops (omega (arith, lt-of-not-le b, q .end))) q
+
+-- a run from bit a of byte k on, through the byte's end
+pub run-through : (m : List ℕ) (k a s e : ℕ) (v : Bool) (r r′ : ℕ) → s ≡ 8 * k + a → Run (bitIn (getD m k 0)) a 8 v r → 8 ≤ r → Run (bit m) (8 * (k + 1)) e v r′ → Run (bit m) s e v r′
+run-through m k a s e v r r′ z o l q =
+    run-on (λ p b c. run-at m k a s v r z o .same p b (omega arith)) (omega (arith, o .start, o .end)) q

@@ -1,0 +1,56 @@
+-- Laws of a run: there is one, it may be cut short, and it goes on behind values that are all the same.
+use mathlib.Core.Path.{_≡_, sym, _∙_}
+use Prim.Native.Nat.{ℕ, _≤_, _<_}
+use native.Mathlib.Nat.{lt-of-not-le}
+use native.Mathlib.Decide.{decLt}
+use native.Mathlib.Omega.{arith}
+use mathlib.Core.Bool.{Bool, true, false, not, true≢false}
+use Rattle.runs.specs.Run.{Run}
+
+not-not-same : (v : Bool) → v ≡ not v → ⊥
+not-not-same true e = true≢false e
+not-not-same false e = true≢false (sym e)
+
+-- two runs from the same number to the same end have the same length
+pub run-only : {f : ℕ → Bool} {a e : ℕ} {v : Bool} {r r′ : ℕ} → Run f a e v r → Run f a e v r′ → r ≡ r′
+run-only {f} {a} {e} {v} {r} {r′} x y = go (decLt r r′) (decLt r′ r)
+  where
+    go : Dec (r < r′) → Dec (r′ < r) → r ≡ r′
+    go (yes l) d = absurd (not-not-same v (sym (y .same r (x .start) l) ∙ x .stops (omega (arith, y .end))))
+    go (no l) (yes l′) = absurd (not-not-same v (sym (x .same r′ (y .start) l′) ∙ y .stops (omega (arith, x .end))))
+    go (no l) (no l′) = omega (arith, lt-of-not-le l, lt-of-not-le l′)
+
+-- where there is no number, the run ends at once
+pub run-empty : {f : ℕ → Bool} {a e : ℕ} {v : Bool} → a ≡ e → Run f a e v e
+run-empty z = record {
+  start = omega arith;
+  end = omega arith;
+  same = λ i b c. absurd (omega arith);
+  stops = λ c. absurd (omega arith);
+}
+
+-- an end before the run's is the run's end
+pub run-cut : {f : ℕ → Bool} {a e e′ : ℕ} {v : Bool} {r : ℕ} → Run f a e v r → a ≤ e′ → e′ ≤ r → Run f a e′ v e′
+run-cut x l h = record {
+  start = l;
+  end = omega arith;
+  same = λ i b c. x .same i b (omega arith);
+  stops = λ c. absurd (omega arith);
+}
+
+-- an end behind a run that stops
+pub run-stops : {f : ℕ → Bool} {a e e′ : ℕ} {v : Bool} {r : ℕ} → Run f a e v r → r < e → r ≤ e′ → Run f a e′ v r
+run-stops x l h = record { start = x .start; end = h; same = x .same; stops = λ _. x .stops l }
+
+-- values v, and then a run of v
+pub run-on : {f : ℕ → Bool} {a c e : ℕ} {v : Bool} {r : ℕ} → ((i : ℕ) → a ≤ i → i < c → f i ≡ v) → a ≤ c → Run f c e v r → Run f a e v r
+run-on {f} {a} {c} {e} {v} {r} s l x = record {
+  start = omega (arith, x .start);
+  end = x .end;
+  same = λ i b h. go i b h (decLt i c);
+  stops = x .stops;
+}
+  where
+    go : (i : ℕ) → a ≤ i → i < r → Dec (i < c) → f i ≡ v
+    go i b h (yes d) = s i b d
+    go i b h (no d) = x .same i (omega (arith, lt-of-not-le d)) h
