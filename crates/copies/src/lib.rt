@@ -1,0 +1,55 @@
+// Bytes copied from slice to slice at the speed of memmove.
+ghost use mathlib.Core.Path.{_≡_};
+ghost use Prim.Native.Nat.{ℕ, _+_, _≤_};
+ghost use lib.ListN.{length};
+ghost use Rattle.copies.specs.Copied.{copied, moved};
+
+// Copies the bytes from number a up to number e one by one: for the few bytes of a pixel.
+pub fn copy_few(dst: &mut [u8], src: &[u8], a: usize, e: usize)
+    requires { ⌜ (a ≤ e) × (e ≤ length (now dst)) × (e ≤ length (now src)) ⌝ }
+    ensures { λ _. ⌜ now (dst .exit) ≡ copied (now (dst .entry)) (now (src .entry)) a e ⌝ }
+{
+    let mut k = a;
+    while k < e {
+        dst[k] = src[k];
+        k += 1;
+    }
+}
+
+// Copies n bytes, from number q on, to number p on, one by one.
+fn shift(dst: &mut [u8], src: &[u8], p: usize, q: usize, n: usize)
+    requires { ⌜ (p + n ≤ length (now dst)) × (q + n ≤ length (now src)) ⌝ }
+    ensures { λ _. ⌜ now (dst .exit) ≡ moved (now (dst .entry)) (now (src .entry)) p q n ⌝ }
+{
+    let mut i: usize = 0;
+    while i < n {
+        dst[p + i] = src[q + i];
+        i += 1;
+    }
+}
+
+// Copies at most 4096 bytes through a block of its own. No other memory can be the block's, so the compiler makes one memmove of the two
+// loops and leaves the block out; of a loop from slice to slice it makes none.
+fn move_block(dst: &mut [u8], src: &[u8], a: usize, e: usize)
+    requires { ⌜ (a ≤ e) × (e ≤ length (now dst)) × (e ≤ length (now src)) × (e ≤ a + 4096) ⌝ }
+    ensures { λ _. ⌜ now (dst .exit) ≡ copied (now (dst .entry)) (now (src .entry)) a e ⌝ }
+{
+    let mut block = [0u8; 4096];
+    let n = e - a;
+    shift(&mut block, src, 0, a, n);
+    shift(dst, &block, a, 0, n);
+}
+
+// Copies the bytes from number a up to number e.
+pub fn copy_range(dst: &mut [u8], src: &[u8], a: usize, e: usize)
+    requires { ⌜ (a ≤ e) × (e ≤ length (now dst)) × (e ≤ length (now src)) ⌝ }
+    ensures { λ _. ⌜ now (dst .exit) ≡ copied (now (dst .entry)) (now (src .entry)) a e ⌝ }
+{
+    let mut k = a;
+    while 4096 < e - k {
+        let next = k + 4096;
+        move_block(dst, src, k, next);
+        k = next;
+    }
+    move_block(dst, src, k, e);
+}
