@@ -1,1 +1,3 @@
+pub mod Bitwise
 pub mod OneBit
+pub mod Ranges

@@ -1,0 +1,89 @@
+-- The bits of a byte made by `|` or `^`, and of the bytes whose set bits are one run.
+use mathlib.Core.Path.{_≡_, refl, sym, ap, ap₂, _∙_}
+use Prim.Native.Nat.{ℕ, zero, suc, _+_, _-_, _/_, _%_, _^_, _≤_, _<_}
+use native.Mathlib.Nat.{lt-of-not-le, mod-lt, div-eq-of-lt}
+use native.Mathlib.Decide.{decLt, decLe}
+use native.Mathlib.Omega.{arith}
+use mathlib.Core.Bool.{Bool, true, false, xor, _&&_, _||_}
+use lib.Bits.{bitOr, bitXor, or-shr, or-mod, xor-shr, xor-mod, xor-lt}
+use lib.Dec.{leb, ltb, eqb}
+use lib.Pow.{pow-mono, shr-shr, shr-le}
+use borrow.Author.Tests.{lt-ltb, le-ltb, le-leb, lt-leb}
+use Rattle.plane.specs.Paint.{bitIn, pack}
+use Rattle.plane.proofs.BitLaws.{bit-pack, pack-lt, same-bits}
+
+-- an operation that goes digit by digit goes bit by bit
+module _ (op : ℕ → ℕ → ℕ) (on : Bool → Bool → Bool)
+    (shr : (a b k : ℕ) → op a b / 2 ^ k ≡ op (a / 2 ^ k) (b / 2 ^ k))
+    (low : (a b k : ℕ) → op a b % 2 ^ k ≡ op (a % 2 ^ k) (b % 2 ^ k))
+    (digit : (a b : ℕ) → a < 2 → b < 2 → eqb (op a b) 1 ≡ on (eqb a 1) (eqb b 1)) where
+  op-bit : (x y i : ℕ) → bitIn (op x y) i ≡ on (bitIn x i) (bitIn y i)
+  unfolding bitIn
+  op-bit x y i =
+      ap (λ (z : ℕ). eqb (z % 2) 1) (shr x y (7 - i))
+      ∙ ap (λ (z : ℕ). eqb z 1) (low (x / 2 ^ (7 - i)) (y / 2 ^ (7 - i)) 1)
+      ∙ digit _ _ (omega arith) (omega arith)
+
+pub or-bit : (x y i : ℕ) → bitIn (bitOr x y) i ≡ (bitIn x i || bitIn y i)
+or-bit = op-bit bitOr _||_ or-shr or-mod digit
+  where
+    digit : (a b : ℕ) → a < 2 → b < 2 → eqb (bitOr a b) 1 ≡ (eqb a 1 || eqb b 1)
+    digit zero zero h l = refl
+    digit zero (suc zero) h l = refl
+    digit (suc zero) zero h l = refl
+    digit (suc zero) (suc zero) h l = refl
+    digit zero (suc (suc b)) h l = absurd (omega arith)
+    digit (suc zero) (suc (suc b)) h l = absurd (omega arith)
+    digit (suc (suc a)) b h l = absurd (omega arith)
+
+xor-bit : (x y i : ℕ) → bitIn (bitXor x y) i ≡ xor (bitIn x i) (bitIn y i)
+unfolding xor
+xor-bit = op-bit bitXor xor xor-shr xor-mod digit
+  where
+    digit : (a b : ℕ) → a < 2 → b < 2 → eqb (bitXor a b) 1 ≡ xor (eqb a 1) (eqb b 1)
+    digit zero zero h l = refl
+    digit zero (suc zero) h l = refl
+    digit (suc zero) zero h l = refl
+    digit (suc zero) (suc zero) h l = refl
+    digit zero (suc (suc b)) h l = absurd (omega arith)
+    digit (suc zero) (suc (suc b)) h l = absurd (omega arith)
+    digit (suc (suc a)) b h l = absurd (omega arith)
+
+-- a byte of ones shifted down by s: the bits from number s on
+odd : (e : ℕ) → e < 8 → eqb (255 / 2 ^ e % 2) 1 ≡ true
+odd zero l = refl
+odd (suc zero) l = refl
+odd (suc (suc zero)) l = refl
+odd (suc (suc (suc zero))) l = refl
+odd (suc (suc (suc (suc zero)))) l = refl
+odd (suc (suc (suc (suc (suc zero))))) l = refl
+odd (suc (suc (suc (suc (suc (suc zero)))))) l = refl
+odd (suc (suc (suc (suc (suc (suc (suc zero))))))) l = refl
+odd (suc (suc (suc (suc (suc (suc (suc (suc e)))))))) l = absurd (omega arith)
+
+ones-bit : (s i : ℕ) → i < 8 → bitIn (255 / 2 ^ s) i ≡ leb s i
+unfolding bitIn
+ones-bit s i l = ap (λ (z : ℕ). eqb (z % 2) 1) (shr-shr 255 s (7 - i)) ∙ go (decLe s i)
+  where
+    go : Dec (s ≤ i) → eqb (255 / 2 ^ (s + (7 - i)) % 2) 1 ≡ leb s i
+    go (yes h) = odd (s + (7 - i)) (omega arith) ∙ sym (le-leb s i h)
+    go (no h) =
+        ap (λ (z : ℕ). eqb (z % 2) 1) (div-eq-of-lt (pow-mono {i = 8} {j = s + (7 - i)} (omega (arith, lt-of-not-le h))))
+        ∙ sym (lt-leb s i (lt-of-not-le h))
+
+-- the byte whose set bits are those from number s up to number t
+module _ (s t : ℕ) (h : s ≤ t) where
+  pub run-lt : bitXor (255 / 2 ^ s) (255 / 2 ^ t) < 256
+  run-lt = xor-lt 8 (255 / 2 ^ s) (255 / 2 ^ t) (omega (arith, shr-le 255 s)) (omega (arith, shr-le 255 t))
+
+  pub run-packs : bitXor (255 / 2 ^ s) (255 / 2 ^ t) ≡ pack (λ i. leb s i && ltb i t)
+  unfolding xor
+  run-packs =
+      same-bits _ _ run-lt (pack-lt _)
+      (λ i l. xor-bit (255 / 2 ^ s) (255 / 2 ^ t) i ∙ ap₂ xor (ones-bit s i l) (ones-bit t i l) ∙ between i (decLe s i) (decLt i t)
+      ∙ sym (bit-pack (λ i. leb s i && ltb i t) i l))
+    where
+      between : (i : ℕ) → Dec (s ≤ i) → Dec (i < t) → xor (leb s i) (leb t i) ≡ (leb s i && ltb i t)
+      between i (yes a) (yes b) = rw (le-leb s i a, lt-leb t i b, lt-ltb i t b)
+      between i (yes a) (no b) = rw (le-leb s i a, le-leb t i (omega (arith, lt-of-not-le b)), le-ltb i t (omega (arith, lt-of-not-le b)))
+      between i (no a) b = rw (lt-leb s i (lt-of-not-le a), lt-leb t i (omega (arith, lt-of-not-le a)))

@@ -1,0 +1,103 @@
+-- A range of a bit string marked: one byte's part of it, and two ranges that meet.
+use mathlib.Core.Path.{_≡_, refl, sym, ap, ap₂, _∙_}
+use Prim.Native.Nat.{ℕ, _+_, _*_, _/_, _%_, _≤_, _<_}
+use native.Mathlib.Nat.{lt-of-not-le}
+use native.Mathlib.Decide.{decLt, decLe, ℕ-discrete}
+use native.Mathlib.Omega.{arith}
+use mathlib.Core.List.{List}
+use mathlib.Core.Bool.{Bool, true, false, _&&_, _||_, and-false, or-comm}
+use lib.Bits.{bitOr, or-lt}
+use lib.Dec.{leb, ltb}
+use lib.ListN.{length, getD, set, length-set}
+use lib.Seq.{getD-set-same, getD-set-other}
+use borrow.Author.Tests.{lt-ltb, le-ltb, le-leb, lt-leb}
+use Rattle.plane.specs.Paint.{bitIn, bit, pack, mark}
+use Rattle.plane.proofs.BitLaws.{bit-pack}
+use Rattle.plane.proofs.PaintLaws.{Bytes, cell, same-map, mark-noop, mark-bit, mark-bytes, mark-length}
+use Rattle.bits.proofs.Bitwise.{or-bit}
+
+-- ---- one byte stored
+
+-- a byte stored marks what its bits say, where nothing else is to be marked
+pub stored : (m : List ℕ) → Bytes m → (n : ℕ) (on : ℕ → Bool) (k v : ℕ) → k < length m → v < 256
+    → ((i : ℕ) → i < 8 → bitIn v i ≡ ((ltb (8 * k + i) n && on (8 * k + i)) || bit m (8 * k + i)))
+    → ((q : ℕ) → (q / 8 ≡ k → ⊥) → (ltb q n && on q) ≡ false)
+    → set m k v ≡ mark n on m
+unfolding bit
+stored m h n on k v l hv inside outside =
+    same-map (set m k v) (mark n on m) (length-set m k v ∙ sym (mark-length n on m)) (λ c. byte c (ℕ-discrete c k)) (mark-bytes n on m h)
+    (λ q b. same q (ℕ-discrete (q / 8) k) ∙ sym (mark-bit n on m q (rw (← length-set m k v) b)))
+  where
+    byte : (c : ℕ) → Dec (c ≡ k) → getD (set m k v) c 0 < 256
+    byte c (yes e) = rw (e, getD-set-same m k v 0 l) hv
+    byte c (no e) = rw (getD-set-other m k c v 0 e) (h c)
+
+    same : (q : ℕ) → Dec (q / 8 ≡ k) → bit (set m k v) q ≡ ((ltb q n && on q) || bit m q)
+    same q (yes e) =
+        ap (λ (x : ℕ). bitIn x (q % 8)) (ap (λ (c : ℕ). getD (set m k v) c 0) e ∙ getD-set-same m k v 0 l)
+        ∙ inside (q % 8) (omega arith)
+        ∙ ap (λ (z : ℕ). (ltb z n && on z) || bit m z) (omega arith)
+    same q (no e) = rw (getD-set-other m k (q / 8) v 0 e, outside q e)
+
+-- a byte `|` v
+pub or-marks : (m : List ℕ) → Bytes m → (k v : ℕ) → k < length m → v < 256
+    → set m k (bitOr (getD m k 0) v) ≡ mark (8 * k + 8) (λ q. leb (8 * k) q && bitIn v (q % 8)) m
+or-marks m h k v l hv =
+    stored m h (8 * k + 8) _ k (bitOr (getD m k 0) v) l (or-lt 8 (getD m k 0) v (h k) hv)
+    (λ i b. or-bit (getD m k 0) v i ∙ or-comm (bitIn (getD m k 0) i) (bitIn v i) ∙ ap₂ _||_ (here i b) (cell k i b m))
+    (λ q e. there q e (decLt q (8 * k + 8)))
+  where
+    here : (i : ℕ) → i < 8 → bitIn v i ≡ (ltb (8 * k + i) (8 * k + 8) && (leb (8 * k) (8 * k + i) && bitIn v ((8 * k + i) % 8)))
+    here i b = rw (lt-ltb (8 * k + i) (8 * k + 8) (omega arith), le-leb (8 * k) (8 * k + i) (omega arith)) (ap (bitIn v) (omega arith))
+
+    there : (q : ℕ) → (q / 8 ≡ k → ⊥) → Dec (q < 8 * k + 8) → (ltb q (8 * k + 8) && (leb (8 * k) q && bitIn v (q % 8))) ≡ false
+    there q e (yes b) = rw (lt-leb (8 * k) q (omega arith)) (and-false (ltb q (8 * k + 8)))
+    there q e (no b) = rw (le-ltb q (8 * k + 8) (omega (arith, lt-of-not-le b)))
+
+-- ---- ranges
+
+module _ (m : List ℕ) (h : Bytes m) where
+  -- the same bits marked
+  mark-same : (n n′ : ℕ) (on on′ : ℕ → Bool) → ((q : ℕ) → (ltb q n && on q) ≡ (ltb q n′ && on′ q)) → mark n on m ≡ mark n′ on′ m
+  mark-same n n′ on on′ e =
+      same-map (mark n on m) (mark n′ on′ m) (mark-length n on m ∙ sym (mark-length n′ on′ m)) (mark-bytes n on m h) (mark-bytes n′ on′ m h)
+      (λ q b. let l : q < 8 * length m = rw (← mark-length n on m) b in
+      mark-bit n on m q l ∙ ap (λ (x : Bool). x || bit m q) (e q) ∙ sym (mark-bit n′ on′ m q l))
+
+  -- no bit
+  pub range-none : (a : ℕ) → mark a (λ q. leb a q) m ≡ m
+  range-none a = mark-noop a _ m (λ k _. h k) (λ q l. rw (lt-leb a q l))
+
+  -- up to b, and then up to c
+  pub range-add : (a b c : ℕ) → a ≤ b → b ≤ c → mark c (λ q. leb b q) (mark b (λ q. leb a q) m) ≡ mark c (λ q. leb a q) m
+  range-add a b c ab bc =
+      same-map (mark c _ (mark b _ m)) (mark c _ m) (mark-length c _ _ ∙ mark-length b _ m ∙ sym (mark-length c _ m))
+      (mark-bytes c _ _ (mark-bytes b _ m h)) (mark-bytes c _ m h)
+      (λ q x. let y : q < 8 * length (mark b (λ q. leb a q) m) = rw (← mark-length c (λ q. leb b q) (mark b (λ q. leb a q) m)) x in
+      let z : q < 8 * length m = rw (← mark-length b (λ q. leb a q) m) y in
+      mark-bit c _ _ q y ∙ ap (λ (t : Bool). (ltb q c && leb b q) || t) (mark-bit b _ m q z) ∙ joins q (decLt q b) ∙ sym (mark-bit c _ m q z))
+    where
+      joins : (q : ℕ) → Dec (q < b) → ((ltb q c && leb b q) || ((ltb q b && leb a q) || bit m q)) ≡ ((ltb q c && leb a q) || bit m q)
+      joins q (yes l) = rw (lt-ltb q c (omega arith), lt-leb b q l, lt-ltb q b l)
+      joins q (no l) = rw (le-leb b q (omega (arith, lt-of-not-le l)), le-ltb q b (omega (arith, lt-of-not-le l)), le-leb a q (omega (arith, lt-of-not-le l)))
+
+  -- the bits from number s up to number t of byte k
+  pub range-part : (k s t : ℕ) → t ≤ 8 → (v : ℕ) → v ≡ pack (λ i. leb s i && ltb i t)
+      → mark (8 * k + 8) (λ q. leb (8 * k) q && bitIn v (q % 8)) m ≡ mark (8 * k + t) (λ q. leb (8 * k + s) q) m
+  range-part k s t l v e =
+      mark-same (8 * k + 8) (8 * k + t) _ _
+      (λ q. ap (λ (x : Bool). ltb q (8 * k + 8) && (leb (8 * k) q && x)) (ap (λ (y : ℕ). bitIn y (q % 8)) e ∙ bit-pack _ (q % 8) (omega arith))
+      ∙ same q (decLt q (8 * k + 8)) (decLe (8 * k) q) (decLe s (q % 8)) (decLt (q % 8) t))
+    where
+      same : (q : ℕ) → Dec (q < 8 * k + 8) → Dec (8 * k ≤ q) → Dec (s ≤ q % 8) → Dec (q % 8 < t)
+          → (ltb q (8 * k + 8) && (leb (8 * k) q && (leb s (q % 8) && ltb (q % 8) t))) ≡ (ltb q (8 * k + t) && leb (8 * k + s) q)
+      same q (yes a) (yes b) (yes c) (yes d) =
+          rw (lt-ltb q (8 * k + 8) a, le-leb (8 * k) q b, le-leb s (q % 8) c, lt-ltb (q % 8) t d, lt-ltb q (8 * k + t) (omega arith), le-leb (8 * k + s) q (omega arith))
+      same q (yes a) (yes b) (yes c) (no d) =
+          rw (lt-ltb q (8 * k + 8) a, le-leb (8 * k) q b, le-leb s (q % 8) c, le-ltb (q % 8) t (omega (arith, lt-of-not-le d)), le-ltb q (8 * k + t) (omega (arith, lt-of-not-le d)))
+      same q (yes a) (yes b) (no c) d =
+          rw (lt-ltb q (8 * k + 8) a, le-leb (8 * k) q b, lt-leb s (q % 8) (lt-of-not-le c), lt-leb (8 * k + s) q (omega (arith, lt-of-not-le c)))
+          (sym (and-false (ltb q (8 * k + t))))
+      same q (yes a) (no b) c d =
+          rw (lt-ltb q (8 * k + 8) a, lt-leb (8 * k) q (lt-of-not-le b), lt-leb (8 * k + s) q (omega (arith, lt-of-not-le b))) (sym (and-false (ltb q (8 * k + t))))
+      same q (no a) b c d = rw (le-ltb q (8 * k + 8) (omega (arith, lt-of-not-le a)), le-ltb q (8 * k + t) (omega (arith, lt-of-not-le a)))

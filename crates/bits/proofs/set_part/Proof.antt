@@ -1,0 +1,42 @@
+-- `bits::set_part` meets its contract.
+use mathlib.Core.Path.{sym, ap₂, _∙_}
+use Prim.Native.Nat.{ℕ, _+_, _*_}
+use native.Mathlib.Omega.{arith}
+use borrow.Author.Needs.{needs}
+use lib.Dec.{leb}
+use Rattle.plane.specs.Paint.{mark}
+use Rattle.plane.proofs.PaintLaws.{Bytes}
+use Rattle.bits.proofs.Ranges.{range-none, range-part}
+use Rattle.bits.proofs.set_part.Statement.{statement}
+use Rattle.bits.proofs.set_part.Tie as tie
+
+bytes : (s : tie.After-slice-known) → Bytes (s .before .args .map .now)
+bytes s k = omega (arith, s .slice-known .given k)
+
+returns : tie.Need-returns
+returns c =
+    let a = c .before .before .args in
+    sym (range-none (a .map .now) (bytes (c .before)) (8 * a .k))
+    ∙ ap₂ (λ (n z : ℕ). mark n (λ q. leb z q) (a .map .now)) (omega arith) (omega arith)
+
+ones-between-requires : tie.Need-ones-between-requires
+ones-between-requires c κs = search needs
+
+or-byte-requires : tie.Need-or-byte-requires
+or-byte-requires c κs = search needs
+
+same-length : tie.Need-same-length
+same-length c = search needs
+
+returns-2 : tie.Need-returns-2
+returns-2 c =
+    let o = c .before .before in
+    let r = o .before .before in
+    let s = r .before .before in
+    let a = s .before .args in
+    o .or-byte .ensures
+    ∙ range-part (a .map .now) (bytes s) (a .k) (a .s) (a .t) (omega arith) (r .ones-between .result) (r .ones-between .ensures)
+
+pub set-part-spec : {M : Type 1} → statement M
+set-part-spec =
+    tie.close (tie.spec returns ones-between-requires or-byte-requires same-length returns-2)
