@@ -56,6 +56,9 @@ or-marks m h k v l hv =
 
 -- ---- ranges
 
+pub same-range : (m : List ℕ) {a a′ c c′ : ℕ} → a ≡ a′ → c ≡ c′ → mark c (λ q. leb a q) m ≡ mark c′ (λ q. leb a′ q) m
+same-range m e f = ap₂ (λ (z n : ℕ). mark n (λ q. leb z q) m) e f
+
 module _ (m : List ℕ) (h : Bytes m) where
   -- the same bits marked
   mark-same : (n n′ : ℕ) (on on′ : ℕ → Bool) → ((q : ℕ) → (ltb q n && on q) ≡ (ltb q n′ && on′ q)) → mark n on m ≡ mark n′ on′ m
@@ -69,7 +72,7 @@ module _ (m : List ℕ) (h : Bytes m) where
   range-none a = mark-noop a _ m (λ k _. h k) (λ q l. rw (lt-leb a q l))
 
   -- up to b, and then up to c
-  pub range-add : (a b c : ℕ) → a ≤ b → b ≤ c → mark c (λ q. leb b q) (mark b (λ q. leb a q) m) ≡ mark c (λ q. leb a q) m
+  range-add : (a b c : ℕ) → a ≤ b → b ≤ c → mark c (λ q. leb b q) (mark b (λ q. leb a q) m) ≡ mark c (λ q. leb a q) m
   range-add a b c ab bc =
       same-map (mark c _ (mark b _ m)) (mark c _ m) (mark-length c _ _ ∙ mark-length b _ m ∙ sym (mark-length c _ m))
       (mark-bytes c _ _ (mark-bytes b _ m h)) (mark-bytes c _ m h)
@@ -80,6 +83,12 @@ module _ (m : List ℕ) (h : Bytes m) where
       joins : (q : ℕ) → Dec (q < b) → ((ltb q c && leb b q) || ((ltb q b && leb a q) || bit m q)) ≡ ((ltb q c && leb a q) || bit m q)
       joins q (yes l) = rw (lt-ltb q c (omega arith), lt-leb b q l, lt-ltb q b l)
       joins q (no l) = rw (le-leb b q (omega (arith, lt-of-not-le l)), le-ltb q b (omega (arith, lt-of-not-le l)), le-leb a q (omega (arith, lt-of-not-le l)))
+
+  -- the same of a list marked up to b, and one of that marked up to c
+  pub range-then : {m′ m″ : List ℕ} (a b b′ c : ℕ) → a ≤ b → b ≡ b′ → b′ ≤ c → m′ ≡ mark b (λ q. leb a q) m → m″ ≡ mark c (λ q. leb b′ q) m′
+      → m″ ≡ mark c (λ q. leb a q) m
+  range-then a b b′ c ab e bc g g′ =
+      g′ ∙ ap₂ (λ (z : ℕ) (l : List ℕ). mark c (λ q. leb z q) l) (sym e) g ∙ range-add a b c ab (omega arith)
 
   -- the bits from number s up to number t of byte k
   pub range-part : (k s t : ℕ) → t ≤ 8 → (v : ℕ) → v ≡ pack (λ i. leb s i && ltb i t)

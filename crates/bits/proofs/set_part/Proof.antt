@@ -1,12 +1,10 @@
 -- `bits::set_part` meets its contract.
-use mathlib.Core.Path.{sym, ap₂, _∙_}
-use Prim.Native.Nat.{ℕ, _+_, _*_}
+use mathlib.Core.Path.{sym, _∙_}
+use Prim.Native.Nat.{_*_}
 use native.Mathlib.Omega.{arith}
 use borrow.Author.Needs.{needs}
-use lib.Dec.{leb}
-use Rattle.plane.specs.Paint.{mark}
 use Rattle.plane.proofs.PaintLaws.{Bytes}
-use Rattle.bits.proofs.Ranges.{range-none, range-part}
+use Rattle.bits.proofs.Ranges.{same-range, range-none, range-part}
 use Rattle.bits.proofs.set_part.Statement.{statement}
 use Rattle.bits.proofs.set_part.Tie as tie
 
@@ -17,7 +15,7 @@ returns : tie.Need-returns
 returns c =
     let a = c .before .before .args in
     sym (range-none (a .map .now) (bytes (c .before)) (8 * a .k))
-    ∙ ap₂ (λ (n z : ℕ). mark n (λ q. leb z q) (a .map .now)) (omega arith) (omega arith)
+    ∙ same-range (a .map .now) (omega arith) (omega arith)
 
 ones-between-requires : tie.Need-ones-between-requires
 ones-between-requires c κs = search needs

@@ -1,42 +1,56 @@
+-- `bits::set_whole` meets its contract.
+use mathlib.Core.Path.{_≡_, refl, sym, _∙_}
+use Prim.Native.Nat.{_*_, _-_, _≤_}
+use native.Mathlib.Omega.{arith}
+use lib.Dec.{leb}
+use lib.ListN.{length}
+use Rattle.plane.specs.Paint.{mark}
+use Rattle.plane.proofs.PaintLaws.{Bytes}
+use Rattle.bits.proofs.Ranges.{same-range, range-none, range-then}
 use Rattle.bits.proofs.set_whole.Statement.{statement}
 use Rattle.bits.proofs.set_whole.Tie as tie
-use Rattle.bits.proofs.set_whole.Reads as reads
-use Rattle.bits.proofs.set_whole.Lts as lts
-use Rattle.bits.proofs.set_part.Reads as set-part-reads
 
 abbrev Inv-loop : tie.InvT-loop
-Inv-loop map₀ k j i₀ map i = ?
+Inv-loop map₀ k j i₀ map i = (k ≤ i) × (i ≤ j) × (map ≡ mark (8 * i) (λ q. leb (8 * k) q) map₀) × (length map ≡ length map₀)
 
 abbrev μ-loop : tie.MeasureT-loop
-μ-loop map₀ k j i₀ map i = ?
+μ-loop map₀ k j i₀ map i = j - i
 
--- src/lib.rt:61:5
+bytes : (s : tie.After-slice-known Inv-loop μ-loop) → Bytes (s .before .args .map .now)
+bytes s k = omega (arith, s .slice-known .given k)
+
 loop-holds : tie.Need-loop-holds Inv-loop μ-loop
-loop-holds c = ?
+loop-holds c = (omega arith, omega arith, sym (range-none _ (bytes c) _), refl)
 
--- src/lib.rt:62:9
 set-part-requires : tie.Need-set-part-requires Inv-loop μ-loop
-set-part-requires c κs = ?
+set-part-requires c κs = omega arith
 
--- src/lib.rt:63:9
 add-i : tie.Need-add-i Inv-loop μ-loop
-add-i c = ?
+add-i c = omega arith
 
--- src/lib.rt:61:5
 loop-less : tie.Need-loop-less Inv-loop μ-loop
-loop-less c = ?
+loop-less c = omega arith
 
--- src/lib.rt:61:5
 loop-again : tie.Need-loop-again Inv-loop μ-loop
-loop-again c = ?
+loop-again c =
+    let p = c .before .before in
+    let l = p .before .before .before in
+    let v = l .loop in
+    let a = l .before .before .args in
+    let m = a .map .now in (
+      omega arith,
+      omega arith,
+      range-then m (bytes (l .before)) (8 * a .k) (8 * v .i) _ _ (omega arith) (omega arith) (omega arith) (v .inv .2) (p .set-part .ensures) ∙ same-range m refl (omega arith),
+      p .set-part .kept .0 ∙ v .inv .3,
+    )
 
--- src/lib.rt:56:1
 same-length : tie.Need-same-length Inv-loop μ-loop
-same-length c = ?
+same-length c = c .before .loop .inv .3
 
--- src/lib.rt:56:1
 returns : tie.Need-returns Inv-loop μ-loop
-returns c = ?
+returns c =
+    let v = c .before .loop in
+    v .inv .2 ∙ same-range (c .before .before .before .args .map .now) refl (omega arith)
 
 pub set-whole-spec : {M : Type 1} → statement M
 set-whole-spec =

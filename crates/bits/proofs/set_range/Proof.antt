@@ -1,0 +1,68 @@
+-- `bits::set_range` meets its contract.
+use mathlib.Core.Path.{_∙_}
+use Prim.Native.Nat.{_*_, _+_, _/_, _%_}
+use native.Mathlib.Omega.{arith}
+use borrow.Author.Needs.{needs}
+use Rattle.plane.proofs.PaintLaws.{Bytes}
+use Rattle.bits.proofs.Ranges.{same-range, range-then}
+use Rattle.bits.proofs.set_range.Statement.{statement}
+use Rattle.bits.proofs.set_range.Tie as tie
+
+bytes : (s : tie.After-slice-known) → Bytes (s .before .args .map .now)
+bytes s k = omega (arith, s .slice-known .given k)
+
+set-part-requires : tie.Need-set-part-requires
+set-part-requires c κs = search needs
+
+same-length : tie.Need-same-length
+same-length c = search needs
+
+returns : tie.Need-returns
+returns c =
+    let p = c .before .before in
+    let a = p .before .before .before .before .args in
+    p .set-part .ensures ∙ same-range (a .map .now) (omega arith) (omega arith)
+
+set-part-requires-2 : tie.Need-set-part-requires-2
+set-part-requires-2 c κs = search needs
+
+add-set-whole : tie.Need-add-set-whole
+add-set-whole c = search needs
+
+set-whole-requires : tie.Need-set-whole-requires
+set-whole-requires c κs = search needs
+
+set-part-requires-3 : tie.Need-set-part-requires-3
+set-part-requires-3 c κs = search needs
+
+same-length-2 : tie.Need-same-length-2
+same-length-2 c = search needs
+
+returns-2 : tie.Need-returns-2
+returns-2 c =
+    let last = c .before .before in
+    let whole = last .before .before .before .before in
+    let first = whole .before .before .before .before in
+    let s = first .before .before .before in
+    let a = s .before .args in
+    let m = a .map .now in
+    let k = a .from / 8 in
+    let j = a .to / 8 in
+    range-then m (bytes s) (8 * k + a .from % 8) (8 * j) _ _ (omega arith) (omega arith) (omega arith)
+    (range-then m (bytes s) (8 * k + a .from % 8) (8 * k + 8) _ _ (omega arith) (omega arith) (omega arith)
+    (first .set-part2 .ensures) (whole .set-whole .ensures)) (last .set-part3 .ensures)
+    ∙ same-range m (omega arith) (omega arith)
+
+pub set-range-spec : {M : Type 1} → statement M
+set-range-spec =
+    tie.close
+    (tie.spec
+    set-part-requires
+    same-length
+    returns
+    set-part-requires-2
+    add-set-whole
+    set-whole-requires
+    set-part-requires-3
+    same-length-2
+    returns-2)
