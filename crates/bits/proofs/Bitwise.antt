@@ -1,7 +1,7 @@
 -- The bits of a byte made by `|` or `^`, and of the bytes whose set bits are one run.
 use mathlib.Core.Path.{_≡_, refl, sym, ap, ap₂, _∙_}
 use Prim.Native.Nat.{ℕ, zero, suc, _+_, _-_, _/_, _%_, _^_, _≤_, _<_}
-use native.Mathlib.Nat.{lt-of-not-le, mod-lt, div-eq-of-lt}
+use native.Mathlib.Nat.{lt-of-not-le, div-eq-of-lt}
 use native.Mathlib.Decide.{decLt, decLe}
 use native.Mathlib.Omega.{arith}
 use mathlib.Core.Bool.{Bool, true, false, xor, _&&_, _||_}
@@ -14,40 +14,32 @@ use Rattle.plane.proofs.BitLaws.{bit-pack, pack-lt, same-bits}
 
 -- an operation that goes digit by digit goes bit by bit
 module _ (op : ℕ → ℕ → ℕ) (on : Bool → Bool → Bool)
-    (shr : (a b k : ℕ) → op a b / 2 ^ k ≡ op (a / 2 ^ k) (b / 2 ^ k))
+    (high : (a b k : ℕ) → op a b / 2 ^ k ≡ op (a / 2 ^ k) (b / 2 ^ k))
     (low : (a b k : ℕ) → op a b % 2 ^ k ≡ op (a % 2 ^ k) (b % 2 ^ k))
-    (digit : (a b : ℕ) → a < 2 → b < 2 → eqb (op a b) 1 ≡ on (eqb a 1) (eqb b 1)) where
+    (d₀₀ : eqb (op 0 0) 1 ≡ on false false) (d₀₁ : eqb (op 0 1) 1 ≡ on false true)
+    (d₁₀ : eqb (op 1 0) 1 ≡ on true false) (d₁₁ : eqb (op 1 1) 1 ≡ on true true) where
+  digits : (a b : ℕ) → a < 2 → b < 2 → eqb (op a b) 1 ≡ on (eqb a 1) (eqb b 1)
+  digits zero zero h l = d₀₀
+  digits zero (suc zero) h l = d₀₁
+  digits (suc zero) zero h l = d₁₀
+  digits (suc zero) (suc zero) h l = d₁₁
+  digits zero (suc (suc b)) h l = absurd (omega arith)
+  digits (suc zero) (suc (suc b)) h l = absurd (omega arith)
+  digits (suc (suc a)) b h l = absurd (omega arith)
+
   op-bit : (x y i : ℕ) → bitIn (op x y) i ≡ on (bitIn x i) (bitIn y i)
   unfolding bitIn
   op-bit x y i =
-      ap (λ (z : ℕ). eqb (z % 2) 1) (shr x y (7 - i))
+      ap (λ (z : ℕ). eqb (z % 2) 1) (high x y (7 - i))
       ∙ ap (λ (z : ℕ). eqb z 1) (low (x / 2 ^ (7 - i)) (y / 2 ^ (7 - i)) 1)
-      ∙ digit _ _ (omega arith) (omega arith)
+      ∙ digits _ _ (omega arith) (omega arith)
 
 pub or-bit : (x y i : ℕ) → bitIn (bitOr x y) i ≡ (bitIn x i || bitIn y i)
-or-bit = op-bit bitOr _||_ or-shr or-mod digit
-  where
-    digit : (a b : ℕ) → a < 2 → b < 2 → eqb (bitOr a b) 1 ≡ (eqb a 1 || eqb b 1)
-    digit zero zero h l = refl
-    digit zero (suc zero) h l = refl
-    digit (suc zero) zero h l = refl
-    digit (suc zero) (suc zero) h l = refl
-    digit zero (suc (suc b)) h l = absurd (omega arith)
-    digit (suc zero) (suc (suc b)) h l = absurd (omega arith)
-    digit (suc (suc a)) b h l = absurd (omega arith)
+or-bit = op-bit bitOr _||_ or-shr or-mod refl refl refl refl
 
 xor-bit : (x y i : ℕ) → bitIn (bitXor x y) i ≡ xor (bitIn x i) (bitIn y i)
 unfolding xor
-xor-bit = op-bit bitXor xor xor-shr xor-mod digit
-  where
-    digit : (a b : ℕ) → a < 2 → b < 2 → eqb (bitXor a b) 1 ≡ xor (eqb a 1) (eqb b 1)
-    digit zero zero h l = refl
-    digit zero (suc zero) h l = refl
-    digit (suc zero) zero h l = refl
-    digit (suc zero) (suc zero) h l = refl
-    digit zero (suc (suc b)) h l = absurd (omega arith)
-    digit (suc zero) (suc (suc b)) h l = absurd (omega arith)
-    digit (suc (suc a)) b h l = absurd (omega arith)
+xor-bit = op-bit bitXor xor xor-shr xor-mod refl refl refl refl
 
 -- a byte of ones shifted down by s: the bits from number s on
 odd : (e : ℕ) → e < 8 → eqb (255 / 2 ^ e % 2) 1 ≡ true

@@ -1,11 +1,11 @@
 -- A range of a bit string marked: one byte's part of it, and two ranges that meet.
-use mathlib.Core.Path.{_≡_, refl, sym, ap, ap₂, _∙_}
+use mathlib.Core.Path.{_≡_, sym, ap, ap₂, _∙_}
 use Prim.Native.Nat.{ℕ, _+_, _*_, _/_, _%_, _≤_, _<_}
 use native.Mathlib.Nat.{lt-of-not-le}
 use native.Mathlib.Decide.{decLt, decLe, ℕ-discrete}
 use native.Mathlib.Omega.{arith}
 use mathlib.Core.List.{List}
-use mathlib.Core.Bool.{Bool, true, false, _&&_, _||_, and-false, or-comm}
+use mathlib.Core.Bool.{Bool, false, _&&_, _||_, and-false, or-comm}
 use lib.Bits.{bitOr, or-lt}
 use lib.Dec.{leb, ltb}
 use lib.ListN.{length, getD, set, length-set}
@@ -18,8 +18,8 @@ use Rattle.bits.proofs.Bitwise.{or-bit}
 
 -- ---- one byte stored
 
--- a byte stored marks what its bits say, where nothing else is to be marked
-pub stored : (m : List ℕ) → Bytes m → (n : ℕ) (on : ℕ → Bool) (k v : ℕ) → k < length m → v < 256
+-- storing v in byte k marks, where v has the bits that marking gives that byte and nothing else is to be marked
+stored : (m : List ℕ) → Bytes m → (n : ℕ) (on : ℕ → Bool) (k v : ℕ) → k < length m → v < 256
     → ((i : ℕ) → i < 8 → bitIn v i ≡ ((ltb (8 * k + i) n && on (8 * k + i)) || bit m (8 * k + i)))
     → ((q : ℕ) → (q / 8 ≡ k → ⊥) → (ltb q n && on q) ≡ false)
     → set m k v ≡ mark n on m
@@ -72,7 +72,7 @@ module _ (m : List ℕ) (h : Bytes m) where
   range-none a = mark-noop a _ m (λ k _. h k) (λ q l. rw (lt-leb a q l))
 
   -- up to b, and then up to c
-  range-add : (a b c : ℕ) → a ≤ b → b ≤ c → mark c (λ q. leb b q) (mark b (λ q. leb a q) m) ≡ mark c (λ q. leb a q) m
+  pub range-add : (a b c : ℕ) → a ≤ b → b ≤ c → mark c (λ q. leb b q) (mark b (λ q. leb a q) m) ≡ mark c (λ q. leb a q) m
   range-add a b c ab bc =
       same-map (mark c _ (mark b _ m)) (mark c _ m) (mark-length c _ _ ∙ mark-length b _ m ∙ sym (mark-length c _ m))
       (mark-bytes c _ _ (mark-bytes b _ m h)) (mark-bytes c _ m h)
@@ -84,7 +84,7 @@ module _ (m : List ℕ) (h : Bytes m) where
       joins q (yes l) = rw (lt-ltb q c (omega arith), lt-leb b q l, lt-ltb q b l)
       joins q (no l) = rw (le-leb b q (omega (arith, lt-of-not-le l)), le-ltb q b (omega (arith, lt-of-not-le l)), le-leb a q (omega (arith, lt-of-not-le l)))
 
-  -- the same of a list marked up to b, and one of that marked up to c
+  -- the same by equations: m′ is marked up to b, and m″ is m′ marked from there up to c
   pub range-then : {m′ m″ : List ℕ} (a b b′ c : ℕ) → a ≤ b → b ≡ b′ → b′ ≤ c → m′ ≡ mark b (λ q. leb a q) m → m″ ≡ mark c (λ q. leb b′ q) m′
       → m″ ≡ mark c (λ q. leb a q) m
   range-then a b b′ c ab e bc g g′ =

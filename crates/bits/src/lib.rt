@@ -64,7 +64,7 @@ pub fn set_whole(map: &mut [u8], k: usize, j: usize)
     }
 }
 
-// Sets the bits from number from up to number to: the low bits of the first byte, whole bytes, the high bits of the last.
+// Sets the bits from number `from` up to number `to`: the low bits of the first byte, whole bytes, the high bits of the last.
 pub fn set_range(map: &mut [u8], from: usize, to: usize)
     requires { ⌜ (from ≤ to) × (to ≤ 8 * length (now map)) ⌝ }
     ensures { λ _. ⌜ now (map .exit) ≡ mark to (λ q. leb from q) (now (map .entry)) ⌝ }

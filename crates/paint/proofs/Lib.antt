@@ -1,3 +1,4 @@
-pub mod Copies
-pub mod Pixels
-pub mod Rows
+pub mod Rooms
+pub mod Spans
+pub mod Given
+pub mod Steps

@@ -2,11 +2,12 @@
 use mathlib.Core.Path.{_≡_}
 use Prim.Native.Nat.{ℕ, _+_, _*_, _-_, _^_, _≤_, _<_}
 use mathlib.Core.List.{List}
-use mathlib.Core.Bool.{Bool, true, cond, not, _&&_, _||_}
-use lib.Dec.{leb, ltb, eqb}
+use mathlib.Core.Bool.{Bool, true, false, not, _&&_, _||_}
+use lib.Dec.{leb, ltb}
 use lib.ListN.{length, getD}
-use Rattle.plane.specs.Sums.{one, count, tab}
+use Rattle.plane.specs.Sums.{count}
 use Rattle.plane.specs.Paint.{bit, paint, mark}
+use Rattle.copies.specs.Copied.{copied}
 
 -- ---- which pixels are given
 
@@ -17,24 +18,6 @@ validAt masked line mw x = not masked || (ltb x mw && bit line x)
 -- a turn gives a valid pixel: the plain one always, the quick one where its map bit is still zero
 abbrev pub givesPixel : Bool → Bool → Bool → Bool
 givesPixel quick valid set = valid && (not quick || not set)
-
--- ---- one pixel: its bytes are those from number a up to number e, its map bit is number p
-
--- the bytes from number a up to number e replaced by the source's at the same numbers
-unfoldable pub copied : List ℕ → List ℕ → ℕ → ℕ → List ℕ
-copied dst src a e = tab (length dst) (λ k. cond (leb a k && ltb k e) (getD src k 0) (getD dst k 0))
-
-pub record PixelRoom (dst m src : List ℕ) (a e p : ℕ) : Type 0 where
-  pub order : a ≤ e
-  pub target : e ≤ length dst
-  pub source : e ≤ length src
-  pub bits : p < 8 * length m
-
--- the pixel's part of a turn, and how many pixels it gives, one or none
-pub record PixelPainted (dst m src : List ℕ) (a e p : ℕ) (valid quick : Bool) (dst′ m′ : List ℕ) (r : ℕ) : Type 0 where
-  pub target : dst′ ≡ cond (givesPixel quick valid (bit m p)) (copied dst src a e) dst
-  pub map : m′ ≡ mark (p + 1) (λ q. eqb q p && valid) m
-  pub given : r ≡ one (givesPixel quick valid (bit m p))
 
 -- ---- a row: n pixels of b bytes; their map bits are from number `first`, their columns in the mask's line from x
 
@@ -57,3 +40,33 @@ pub record RowPainted (dst m : List ℕ) (first : ℕ) (src : List ℕ) (b n : �
   pub target : dst′ ≡ paint n b (rowGives quick m first masked line mw x) (λ i j. getD src (i * b + j) 0) dst
   pub map : m′ ≡ mark (first + n) (λ p. leb first p && validAt masked line mw (x + (p - first))) m
   pub given : r ≡ count n (rowGives quick m first masked line mw x)
+
+-- ---- a span of a row: its pixels from number i up to number j
+
+-- the row has room for the pixels before j
+pub record SpanRoom (dst m : List ℕ) (first : ℕ) (src : List ℕ) (b i j : ℕ) (masked : Bool) (line : List ℕ) (mw x : ℕ) : Type 0 where
+  pub order : i ≤ j
+  pub row : RowRoom dst m first src b j masked line mw x
+
+-- the span's part of the row's
+pub record SpanPainted (dst m : List ℕ) (first : ℕ) (src : List ℕ) (b i j : ℕ) (masked : Bool) (line : List ℕ) (mw x : ℕ) (quick : Bool) (dst′ m′ : List ℕ) (r : ℕ)
+    : Type 0 where
+  pub target : dst′ ≡ paint j b (λ p. leb i p && rowGives quick m first masked line mw x p) (λ p k. getD src (p * b + k) 0) dst
+  pub map : m′ ≡ mark (first + j) (λ q. leb (first + i) q && validAt masked line mw (x + (q - first))) m
+  pub given : r ≡ count (j - i) (λ k. rowGives quick m first masked line mw x (i + k))
+
+-- a turn of this kind gives whichever of the span's pixels are valid: it is plain, or their map bits are zero
+abbrev pub Open : List ℕ → ℕ → ℕ → ℕ → Bool → Type 0
+Open m first i j quick = quick ≡ true → (p : ℕ) → i ≤ p → p < j → bit m (first + p) ≡ false
+
+-- every pixel of the span is given
+pub record SpanGiven (dst m : List ℕ) (first : ℕ) (src : List ℕ) (b i j : ℕ) (dst′ m′ : List ℕ) : Type 0 where
+  pub target : dst′ ≡ copied dst src (i * b) (j * b)
+  pub map : m′ ≡ mark (first + j) (λ q. leb (first + i) q) m
+
+-- a step along the pixels from number i up to number j paints those before `next`, at least one
+pub record Stepped (dst m : List ℕ) (first : ℕ) (src : List ℕ) (b i j : ℕ) (masked : Bool) (line : List ℕ) (mw x : ℕ) (quick : Bool) (dst′ m′ : List ℕ) (next r : ℕ)
+    : Type 0 where
+  pub on : i < next
+  pub end : next ≤ j
+  pub painted : SpanPainted dst m first src b i next masked line mw x quick dst′ m′ r

@@ -1,5 +1,5 @@
 -- Laws of `paint`, `mark` and `clear`, byte by byte and bit by bit.
-use mathlib.Core.Path.{_≡_, sym, ap, ap₂, _∙_, subst}
+use mathlib.Core.Path.{_≡_, sym, ap, ap₂, _∙_, subst, fun-ext}
 use Prim.Native.Nat.{ℕ, _+_, _*_, _-_, _/_, _%_, _^_, _≤_, _<_}
 use native.Mathlib.Nat.{lt-of-lt-of-le, lt-of-not-le, zero-div, div-lt-iff-lt-mul, div-add-mod', mod-lt, le-trans, le-add-right, mul-le-mul-right, le-of-suc-le-suc}
 use native.Mathlib.Decide.{decLt, ℕ-discrete}
@@ -166,6 +166,25 @@ paint-none n b on px t hb e =
     go : (k : ℕ) → Dec (k < n * b) → cond (ltb k (n * b) && on (k / b)) (px (k / b) (k % b)) (getD t k 0) ≡ getD t k 0
     go k (yes l) = rw (lt-ltb k (n * b) l, e (k / b) (div-lt-iff-lt-mul hb .1 l))
     go k (no l) = rw (le-ltb k (n * b) (omega (arith, lt-of-not-le l)))
+
+-- pixels are painted, and bits set, as the test says below n, whatever it says past them
+pub paint-ext : (n b : ℕ) (on on′ : ℕ → Bool) (px : ℕ → ℕ → ℕ) (t : List ℕ) → 1 ≤ b → ((p : ℕ) → p < n → on p ≡ on′ p) → paint n b on px t ≡ paint n b on′ px t
+unfolding paint
+paint-ext n b on on′ px t hb e =
+    tab-ext (length t) _ _ (λ k _. ap (λ (z : Bool). cond z (px (k / b) (k % b)) (getD t k 0)) (go k (decLt k (n * b))))
+  where
+    go : (k : ℕ) → Dec (k < n * b) → (ltb k (n * b) && on (k / b)) ≡ (ltb k (n * b) && on′ (k / b))
+    go k (yes l) = ap (λ (z : Bool). ltb k (n * b) && z) (e (k / b) (div-lt-iff-lt-mul hb .1 l))
+    go k (no l) = rw (le-ltb k (n * b) (omega (arith, lt-of-not-le l)))
+
+pub mark-ext : (n : ℕ) (on on′ : ℕ → Bool) (m : List ℕ) → ((p : ℕ) → p < n → on p ≡ on′ p) → mark n on m ≡ mark n on′ m
+unfolding mark
+mark-ext n on on′ m e =
+    tab-ext (length m) _ _ (λ k _. ap (λ (f : ℕ → Bool). cond (ltb (8 * k) n) (pack f) (getD m k 0)) (fun-ext (λ i. ap (λ (z : Bool). z || bit m (8 * k + i)) (go (8 * k + i) (decLt (8 * k + i) n)))))
+  where
+    go : (p : ℕ) → Dec (p < n) → (ltb p n && on p) ≡ (ltb p n && on′ p)
+    go p (yes l) = ap (λ (z : Bool). ltb p n && z) (e p l)
+    go p (no l) = rw (le-ltb p n (omega (arith, lt-of-not-le l)))
 
 -- a zero bit set by a store
 unfoldable pub setBit : List ℕ → ℕ → List ℕ

@@ -29,6 +29,14 @@ unfolding sum
 sum-zero zero = refl
 sum-zero (suc n) = omega (arith, sum-zero n)
 
+pub count-all : (n : ℕ) (f : ℕ → Bool) → ((i : ℕ) → i < n → f i ≡ true) → count n f ≡ n
+unfolding sum
+count-all zero f e = refl
+count-all (suc n) f e = omega (arith, count-all n f (λ i h. e i (le-step h)), ap one (e n (lt-suc-self n)))
+
+pub count-none : (n : ℕ) (f : ℕ → Bool) → ((i : ℕ) → i < n → f i ≡ false) → count n f ≡ 0
+count-none n f e = sum-ext n _ (λ i. 0) (λ i h. ap one (e i h)) ∙ sum-zero n
+
 pub sum-add : (n m : ℕ) (f : ℕ → ℕ) → sum (n + m) f ≡ sum n f + sum m (λ i. f (n + i))
 unfolding sum
 sum-add n zero f = ap (λ (k : ℕ). sum k f) (add-zero n) ∙ sym (add-zero (sum n f))

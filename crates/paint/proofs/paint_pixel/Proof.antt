@@ -1,10 +1,15 @@
 -- `paint::paint_pixel` meets its contract.
-use mathlib.Core.Path.{sym, _∙_}
+use mathlib.Core.Path.{_≡_, sym, ap, _∙_}
+use mathlib.Core.Logic.{inl, inr}
+use mathlib.Core.Bool.{true}
+use Prim.Native.Nat.{ℕ, _+_}
 use native.Mathlib.Omega.{arith}
-use borrow.Author.Needs.{needs}
 use borrow.Author.Tests.{not-true, not-false}
+use Rattle.plane.specs.Paint.{bit}
 use Rattle.plane.proofs.PaintLaws.{Bytes}
-use Rattle.paint.proofs.Pixels.{pixel-off, pixel-left, pixel-over, pixel-new}
+use Rattle.paint.specs.Row.{validAt}
+use Rattle.paint.proofs.Given.{pixel-left, pixel-over, pixel-new}
+use borrow.Author.Needs.{needs}
 use Rattle.paint.proofs.paint_pixel.Statement.{statement}
 use Rattle.paint.proofs.paint_pixel.Tie as tie
 
@@ -12,8 +17,24 @@ use Rattle.paint.proofs.paint_pixel.Tie as tie
 bytes : (s : tie.After-slice-known2) → Bytes (s .before .before .args .map .now)
 bytes s k = omega (arith, s .slice-known2 .given k)
 
+-- a pixel past the first test is valid
+valid : (e : tie.Else1) → let a = e .before .before .before .before .before .before .args in validAt (a .masked) (a .line .now) (a .mw) (a .x + a .i) ≡ true
+valid e = sym (e .before .valid-at .ensures) ∙ not-false _ (e .if1 .left)
+
+add-valid-at : tie.Need-add-valid-at
+add-valid-at c = search needs
+
+valid-at-requires : tie.Need-valid-at-requires
+valid-at-requires c κs = search needs
+
 returns : tie.Need-returns
-returns c = let s = c .before .before in pixel-off _ _ _ (bytes s) _ _ _ _ _ (not-true _ (c .if1 .taken))
+returns c =
+    let v = c .before in
+    let s = v .before .before .before in
+    pixel-left _ _ _ (s .before .before .pre .0 .bytes) _ _ _ _ _ _ _ (bytes s) _ (inl (sym (v .valid-at .ensures) ∙ not-true _ (c .if1 .taken)))
+
+add-p : tie.Need-add-p
+add-p c = search needs
 
 bit-at-requires : tie.Need-bit-at-requires
 bit-at-requires c κs = search needs
@@ -24,10 +45,14 @@ same-length c = search needs
 returns-2 : tie.Need-returns-2
 returns-2 c =
     let e = c .before .before .before .before in
-    pixel-left _ _ _ (bytes (e .before .before)) _ _ _ _ _ (not-false _ (e .if1 .left)) (c .if3 .taken) (sym (c .before .before .bit-at .ensures) ∙ c .before .if2 .taken)
+    let s = e .before .before .before .before in
+    pixel-left _ _ _ (s .before .before .pre .0 .bytes) _ _ _ _ _ _ _ (bytes s) _ (inr (c .if3 .taken, sym (c .before .before .bit-at .ensures) ∙ c .before .if2 .taken))
 
-copy-requires : tie.Need-copy-requires
-copy-requires c κs = search needs
+add-copy-few : tie.Need-add-copy-few
+add-copy-few c = search needs
+
+copy-few-requires : tie.Need-copy-few-requires
+copy-few-requires c κs = search needs
 
 same-length-2 : tie.Need-same-length-2
 same-length-2 c = search needs
@@ -39,16 +64,21 @@ returns-3 : tie.Need-returns-3
 returns-3 c =
     let t = c .before .before .before .before in
     let e = t .before .before .before .before in
-    pixel-over _ _ _ (bytes (e .before .before)) _ _ _ _ _ (not-false _ (e .if1 .left)) (t .if3 .left)
-    (sym (t .before .before .bit-at .ensures) ∙ t .before .if2 .taken) (c .before .before .copy .ensures)
+    let s = e .before .before .before .before in
+    pixel-over _ _ _ (s .before .before .pre .0 .bytes) _ _ _ _ _ _ _ (bytes s) _ _ (s .before .before .pre .1) (valid e) (c .before .before .copy-few .ensures)
+    (t .if3 .left) (sym (t .before .before .bit-at .ensures) ∙ t .before .if2 .taken)
 
-copy-requires-2 : tie.Need-copy-requires-2
-copy-requires-2 c κs = search needs
+add-copy-few-2 : tie.Need-add-copy-few-2
+add-copy-few-2 c = search needs
+
+copy-few-requires-2 : tie.Need-copy-few-requires-2
+copy-few-requires-2 c κs = search needs
 
 set-bit-requires : tie.Need-set-bit-requires
 set-bit-requires c κs =
     let e = c .before .before .before .before .before in
-    (omega (arith, e .before .before .before .before .before .before .before .pre .bits), sym (e .before .bit-at .ensures) ∙ e .if2 .left)
+    let s = e .before .before .before .before .before .before .before in
+    (omega (arith, s .before .before .pre .0 .bits), sym (e .before .bit-at .ensures) ∙ e .if2 .left)
 
 same-length-4 : tie.Need-same-length-4
 same-length-4 c = search needs
@@ -59,24 +89,30 @@ same-length-5 c = search needs
 returns-4 : tie.Need-returns-4
 returns-4 c =
     let g = c .before .before in
-    let e = g .before .before .before .before .before .before in
-    let o = e .before .before .before in
-    pixel-new _ _ _ (bytes (o .before .before)) _ _ _ _ _ (not-false _ (o .if1 .left)) (sym (e .before .bit-at .ensures) ∙ e .if2 .left)
-    (g .before .before .before .before .copy2 .ensures) (g .set-bit .ensures)
+    let n = g .before .before .before .before .before .before in
+    let e = n .before .before .before in
+    let s = e .before .before .before .before in
+    pixel-new _ _ _ (s .before .before .pre .0 .bytes) _ _ _ _ _ _ _ (bytes s) _ _ (s .before .before .pre .1) (valid e) (g .before .before .before .before .copy-few2 .ensures)
+    (sym (n .before .bit-at .ensures) ∙ n .if2 .left) (g .set-bit .ensures)
 
 pub paint-pixel-spec : {M : Type 1} → statement M
 paint-pixel-spec =
     tie.close
     (tie.spec
+    add-valid-at
+    valid-at-requires
     returns
+    add-p
     bit-at-requires
     same-length
     returns-2
-    copy-requires
+    add-copy-few
+    copy-few-requires
     same-length-2
     same-length-3
     returns-3
-    copy-requires-2
+    add-copy-few-2
+    copy-few-requires-2
     set-bit-requires
     same-length-4
     same-length-5
