@@ -8,15 +8,12 @@ use mathlib.Core.List.{List}
 use mathlib.Core.Bool.{Bool, true, cond, and-true}
 use lib.Dec.{ltb}
 use lib.ListN.{length, getD, set}
+use lib.Seq.{ext-getD}
 use borrow.Author.Tests.{lt-ltb, le-ltb}
-use Rattle.plane.specs.Sums.{tab}
 use Rattle.plane.specs.Paint.{paint, clear}
 use Rattle.plane.proofs.Tests.{ltb-next}
-use Rattle.plane.proofs.SumLaws.{tab-ext, tab-getD, tab-set}
-
--- the first k elements are f 0, .., f (k - 1), the others stay
-unfoldable pub front : (ℕ → ℕ) → ℕ → List ℕ → List ℕ
-front f k l = tab (length l) (λ i. cond (ltb i k) (f i) (getD l i 0))
+use Rattle.plane.proofs.SumLaws.{tab-ext, tab-getD, tab-set, length-tab, getD-tab}
+use Rattle.blank.specs.Front.{front, Alike}
 
 pub front-none : (f : ℕ → ℕ) (l : List ℕ) → front f 0 l ≡ l
 unfolding front
@@ -25,6 +22,34 @@ front-none f l = tab-ext (length l) _ _ (λ i h. rw (le-ltb i 0 (omega arith))) 
 pub front-more : (f : ℕ → ℕ) (k : ℕ) (l : List ℕ) → k < length l → set (front f k l) k (f k) ≡ front f (k + 1) l
 unfolding front
 front-more f k l h = tab-set (length l) _ _ k (f k) h (rw (lt-ltb k (k + 1) (omega arith))) (λ i b n. ap (λ (x : Bool). cond x (f i) (getD l i 0)) (ltb-next i k n))
+
+-- ---- the element at number i
+
+pub front-length : (f : ℕ → ℕ) (k : ℕ) (l : List ℕ) → length (front f k l) ≡ length l
+unfolding front
+front-length f k l = length-tab (length l) _
+
+pub front-in : (f : ℕ → ℕ) (k : ℕ) (l : List ℕ) (i : ℕ) → i < length l → i < k → getD (front f k l) i 0 ≡ f i
+unfolding front
+front-in f k l i h b = getD-tab (length l) _ i h ∙ rw (lt-ltb i k b)
+
+pub front-past : (f : ℕ → ℕ) (k : ℕ) (l : List ℕ) (i : ℕ) → i < length l → k ≤ i → getD (front f k l) i 0 ≡ getD l i 0
+unfolding front
+front-past f k l i h b = getD-tab (length l) _ i h ∙ rw (le-ltb i k b)
+
+-- a list with these elements is the list filled
+pub front-is : (f : ℕ → ℕ) (k : ℕ) (l r : List ℕ) → length r ≡ length l → ((i : ℕ) → i < length l → i < k → getD r i 0 ≡ f i)
+    → ((i : ℕ) → i < length l → k ≤ i → getD r i 0 ≡ getD l i 0)
+    → r ≡ front f k l
+front-is f k l r e g h = ext-getD 0 r (front f k l) (e ∙ sym (front-length f k l)) (λ i b. at i (rw e at b) (decLt i k))
+  where
+    at : (i : ℕ) → i < length l → Dec (i < k) → getD r i 0 ≡ getD (front f k l) i 0
+    at i b (yes a) = g i b a ∙ sym (front-in f k l i b a)
+    at i b (no a) =
+        let p : k ≤ i = omega (arith, lt-of-not-le a) in
+        h i b p ∙ sym (front-past f k l i b p)
+
+-- ---- the target and the map
 
 -- n pixels of b bytes filled
 pub front-fill : (n b : ℕ) (bg t : List ℕ) → front (λ k. getD bg (k % b) 0) (n * b) t ≡ paint n b (λ p. true) (λ p j. getD bg j 0) t
@@ -39,3 +64,15 @@ front-clear n k m h h′ = tab-ext (length m) _ _ (λ i l. ap (λ (x : Bool). co
     same : (i : ℕ) → Dec (i < k) → ltb i k ≡ ltb (8 * i) n
     same i (yes a) = lt-ltb i k a ∙ sym (lt-ltb (8 * i) n (omega arith))
     same i (no a) = le-ltb i k (omega (arith, lt-of-not-le a)) ∙ sym (le-ltb (8 * i) n (omega (arith, lt-of-not-le a)))
+
+-- ---- equal bytes
+
+pub alike-one : (l : List ℕ) → Alike l 1
+alike-one l i h = ap (λ (k : ℕ). getD l k 0) (omega arith)
+
+pub alike-more : (l : List ℕ) (k : ℕ) → Alike l k → getD l k 0 ≡ getD l 0 0 → Alike l (k + 1)
+alike-more l k a e i h = go (decLt i k)
+  where
+    go : Dec (i < k) → getD l i 0 ≡ getD l 0 0
+    go (yes b) = a i b
+    go (no b) = ap (λ (j : ℕ). getD l j 0) (omega (arith, lt-of-not-le b)) ∙ e

@@ -6,9 +6,10 @@ use mathlib.Core.Bool.{true}
 use lib.ListN.{length, getD}
 use Rattle.plane.specs.Paint.{paint, clear}
 
--- the target t has room for n pixels of b bytes, and the background is one pixel
+-- the target t has room for n pixels of b bytes, and the background is one pixel, of at most 4096 bytes
 pub record FillRoom (t : List ℕ) (n b : ℕ) (bg : List ℕ) : Type 0 where
   pub bytes : 1 ≤ b
+  pub small : b ≤ 4096
   pub target : n * b ≤ length t
   pub pixel : length bg ≡ b
 

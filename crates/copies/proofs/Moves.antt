@@ -8,7 +8,6 @@ use mathlib.Core.Bool.{Bool, cond, _&&_}
 use lib.Dec.{ltb, leb}
 use lib.ListN.{length, getD, set}
 use lib.Seq.{ext-getD}
-use borrow.Author.Tests.{lt-ltb, le-leb}
 use Rattle.plane.proofs.Tests.{ltb-next}
 use Rattle.plane.proofs.SumLaws.{tab-ext, tab-getD, tab-set, length-tab, getD-tab}
 use Rattle.copies.specs.Copied.{copied, moved}
@@ -71,7 +70,9 @@ moved-through d s b p q n h =
         ∙ ap (λ (z : ℕ). getD s z 0) (omega arith) ∙ sym (moved-in d s p q n k l x y))
         (λ x. moved-past d _ p 0 n k l x ∙ sym (moved-past d s p q n k l x))
 
--- a copy through a block b, which becomes b′
+-- through a block b, which becomes b′
+pub through : (d s b b′ d′ : List ℕ) (p q n : ℕ) → n ≤ length b → b′ ≡ moved b s 0 q n → d′ ≡ moved d b′ p 0 n → d′ ≡ moved d s p q n
+through d s b b′ d′ p q n l f g = g ∙ ap (λ (x : List ℕ). moved d x p 0 n) f ∙ moved-through d s b p q n l
+
 pub copied-through : (d s b b′ d′ : List ℕ) (a e : ℕ) → a ≤ e → e - a ≤ length b → b′ ≡ moved b s 0 a (e - a) → d′ ≡ moved d b′ a 0 (e - a) → d′ ≡ copied d s a e
-copied-through d s b b′ d′ a e h l q r =
-    r ∙ ap (λ (x : List ℕ). moved d x a 0 (e - a)) q ∙ moved-through d s b a a (e - a) l ∙ moved-same d s a e h
+copied-through d s b b′ d′ a e h l f g = through d s b b′ d′ a a (e - a) l f g ∙ moved-same d s a e h

@@ -40,6 +40,16 @@ fn move_block(dst: &mut [u8], src: &[u8], a: usize, e: usize)
     shift(dst, &block, a, 0, n);
 }
 
+// Copies n bytes of the slice, from number q on, to number p on, in the same way.
+pub fn copy_within(dst: &mut [u8], p: usize, q: usize, n: usize)
+    requires { ⌜ (p + n ≤ length (now dst)) × (q + n ≤ length (now dst)) × (n ≤ 4096) ⌝ }
+    ensures { λ _. ⌜ now (dst .exit) ≡ moved (now (dst .entry)) (now (dst .entry)) p q n ⌝ }
+{
+    let mut block = [0u8; 4096];
+    shift(&mut block, dst, 0, q, n);
+    shift(dst, &block, p, 0, n);
+}
+
 // Copies the bytes from number a up to number e.
 pub fn copy_range(dst: &mut [u8], src: &[u8], a: usize, e: usize)
     requires { ⌜ (a ≤ e) × (e ≤ length (now dst)) × (e ≤ length (now src)) ⌝ }

@@ -2,6 +2,7 @@ use Rattle.turns.specs.TileOf.{windowOf}
 use native.Mathlib.Omega.{arith}
 use mathlib.Core.Path.{_≡_, refl, sym, ap, _∙_}
 use Rattle.format.specs.Entry.{pixelBytes}
+use Rattle.entries.proofs.EntryLaws.{pixel-bytes-few}
 use Rattle.blank.specs.Blank.{FillRoom}
 use Rattle.blank.proofs.Start.{started}
 use borrow.Author.Needs.{needs}
@@ -18,7 +19,7 @@ fill-requires : tie.Need-fill-requires
 fill-requires c κs =
     let k = c .before .before .before .before .before .before in
     let e = c .before .pixel-bytes .ensures in
-    record { bytes = rw e (k .pre .0 .bytes); target = rw e (k .pre .0 .target); pixel = k .pre .1 .1 ∙ sym e }
+    record { bytes = rw e (k .pre .0 .bytes); small = rw e (omega (arith, pixel-bytes-few (k .args .t))); target = rw e (k .pre .0 .target); pixel = k .pre .1 .1 ∙ sym e }
 
 clear-requires : tie.Need-clear-requires
 clear-requires c κs = search needs

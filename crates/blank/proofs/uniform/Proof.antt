@@ -1,0 +1,58 @@
+-- `blank::uniform` meets its contract.
+use mathlib.Core.Path.{_≡_}
+use Prim.Native.Nat.{ℕ, _-_, _≤_}
+use native.Mathlib.Omega.{arith}
+use lib.ListN.{length}
+use Rattle.blank.specs.Front.{Alike}
+use Rattle.blank.proofs.Front.{alike-one, alike-more}
+use Rattle.blank.proofs.uniform.Statement.{statement}
+use Rattle.blank.proofs.uniform.Tie as tie
+
+abbrev Inv-loop : tie.InvT-loop
+Inv-loop bg v k₀ k = (1 ≤ k) × (k ≤ length bg) × Alike bg k
+
+abbrev μ-loop : tie.MeasureT-loop
+μ-loop bg v k₀ k = length bg - k
+
+shared-slice-read-v : tie.Need-shared-slice-read-v Inv-loop μ-loop
+shared-slice-read-v c = omega arith
+
+loop-holds : tie.Need-loop-holds Inv-loop μ-loop
+loop-holds c = (omega arith, omega arith, alike-one (c .before .args .bg .now))
+
+shared-slice-read-if1 : tie.Need-shared-slice-read-if1 Inv-loop μ-loop
+shared-slice-read-if1 c = omega arith
+
+returns : tie.Need-returns Inv-loop μ-loop
+returns c e =
+    let z : _≡_ {A = ℕ} 0 1 = cc in
+    absurd (omega arith)
+
+add-k : tie.Need-add-k Inv-loop μ-loop
+add-k c = omega arith
+
+loop-less : tie.Need-loop-less Inv-loop μ-loop
+loop-less c = omega arith
+
+loop-again : tie.Need-loop-again Inv-loop μ-loop
+loop-again c =
+    let v = c .before .before .before .loop in
+    (omega arith, omega arith, alike-more (c .before .before .before .before .before .args .bg .now) (v .k) (v .inv .2) (c .if1 .left))
+
+returns-2 : tie.Need-returns-2 Inv-loop μ-loop
+returns-2 c e k h = c .before .loop .inv .2 k (omega arith)
+
+pub uniform-spec : {M : Type 1} → statement M
+uniform-spec =
+    tie.close
+    (tie.spec
+    Inv-loop
+    μ-loop
+    shared-slice-read-v
+    loop-holds
+    shared-slice-read-if1
+    returns
+    add-k
+    loop-less
+    loop-again
+    returns-2)
