@@ -40,23 +40,22 @@ pub fn u64_at(s: &[u8], p: u64) -> u64
     u32_at(s, p) + 4294967296 * u32_at(s, p + 4)
 }
 
-// Whether the bytes of name stand at p.
+// Whether the bytes of name stand at p. No byte ends the loop early, so that it is compiled to vectors.
 pub fn same_at(s: &[u8], p: u64, name: &[u8]) -> bool
     requires { ⌜ p + length (now name) ≤ length (now s) ⌝ }
     ensures { λ r. ⌜ r ≡ sameAt (now (s .entry)) p (now (name .entry)) ⌝ }
 {
     let at = p as usize;
+    let mut off: u8 = 0;
     let mut i: usize = 0;
     while i < name.len() {
-        if s[at + i] != name[i] {
-            return false;
-        }
+        off = off | (s[at + i] ^ name[i]);
         i += 1;
     }
-    true
+    off == 0
 }
 
-// Whether the n bytes at a of s are those at b of t.
+// Whether the n bytes at a of s are those at b of t. No byte ends the loop early here either.
 pub fn same_range(n: u64, s: &[u8], a: u64, t: &[u8], b: u64) -> bool
     requires { ⌜ (a + n ≤ length (now s)) × (b + n ≤ length (now t)) ⌝ }
     ensures { λ r. ⌜ r ≡ sameRange n (now (s .entry)) a (now (t .entry)) b ⌝ }
@@ -64,14 +63,13 @@ pub fn same_range(n: u64, s: &[u8], a: u64, t: &[u8], b: u64) -> bool
     let count = n as usize;
     let from = a as usize;
     let to = b as usize;
+    let mut off: u8 = 0;
     let mut i: usize = 0;
     while i < count {
-        if s[from + i] != t[to + i] {
-            return false;
-        }
+        off = off | (s[from + i] ^ t[to + i]);
         i += 1;
     }
-    true
+    off == 0
 }
 
 // The n bytes from p on, as a part of the lent slice.

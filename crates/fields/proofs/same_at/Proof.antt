@@ -1,37 +1,30 @@
-use denote.Ref.{now}
 use Prim.Native.Nat.{_+_, _-_, _≤_}
-use mathlib.Core.Path.{_≡_, sym}
-use mathlib.Core.Bool.{true}
+use mathlib.Core.Path.{_≡_}
 use native.Mathlib.Omega.{arith}
 use lib.ListN.{length, getD}
-use lib.Dec.{eqb}
-use borrow.Author.Tests.{eq-eqb, ne-eqb}
-use Rattle.format.specs.Bytes.{allBelow, sameAt}
-use Rattle.format.proofs.Below.{all-zero, all-more, all-fails}
+use denote.Ref.{now}
+use Rattle.format.specs.Bytes.{sameAt}
+use Rattle.fields.proofs.Equal.{Joined, none-joined, one-joined}
 use Rattle.fields.proofs.same_at.Statement.{statement}
 use Rattle.fields.proofs.same_at.Tie as tie
 
 abbrev Inv-loop : tie.InvT-loop
-Inv-loop s p name at i₀ i = (i ≤ length name) × (allBelow i (λ k. eqb (getD s (at + k) 0) (getD name k 0)) ≡ true)
+Inv-loop s p name at off₀ i₀ off i = (i ≤ length name) × Joined (λ k. getD s (at + k) 0) (λ k. getD name k 0) i off
 
 abbrev μ-loop : tie.MeasureT-loop
-μ-loop s p name at i₀ i = length name - i
+μ-loop s p name at off₀ i₀ off i = length name - i
 
 loop-holds : tie.Need-loop-holds Inv-loop μ-loop
-loop-holds c = (omega arith, all-zero _)
+loop-holds c = (omega arith, none-joined _ _)
 
-add-if1 : tie.Need-add-if1 Inv-loop μ-loop
-add-if1 c = omega arith
+add-off : tie.Need-add-off Inv-loop μ-loop
+add-off c = omega arith
 
-shared-slice-read-if1 : tie.Need-shared-slice-read-if1 Inv-loop μ-loop
-shared-slice-read-if1 c = omega arith
+shared-slice-read-off : tie.Need-shared-slice-read-off Inv-loop μ-loop
+shared-slice-read-off c = omega arith
 
-shared-slice-read-if1-2 : tie.Need-shared-slice-read-if1-2 Inv-loop μ-loop
-shared-slice-read-if1-2 c = omega arith
-
-returns : tie.Need-returns Inv-loop μ-loop
-unfolding sameAt
-returns c = sym (all-fails _ _ _ (omega arith) (ne-eqb _ _ (c .if1 .taken)))
+shared-slice-read-off-2 : tie.Need-shared-slice-read-off-2 Inv-loop μ-loop
+shared-slice-read-off-2 c = omega arith
 
 add-i : tie.Need-add-i Inv-loop μ-loop
 add-i c = omega arith
@@ -40,11 +33,11 @@ loop-less : tie.Need-loop-less Inv-loop μ-loop
 loop-less c = omega arith
 
 loop-again : tie.Need-loop-again Inv-loop μ-loop
-loop-again c = (omega arith, all-more _ _ (c .before .before .before .before .loop .inv .1) (eq-eqb _ _ (c .if1 .left)))
+loop-again c = (omega arith, one-joined _ _ _ _ (c .before .before .before .loop .inv .1))
 
-returns-2 : tie.Need-returns-2 Inv-loop μ-loop
+returns : tie.Need-returns Inv-loop μ-loop
 unfolding sameAt
-returns-2 c = let e : c .before .loop .i ≡ length (now (c .before .before .args .name)) = omega arith in rw (← e) (sym (c .before .loop .inv .1))
+returns c = let e : c .before .loop .i ≡ length (now (c .before .before .args .name)) = omega arith in rw (← e) (c .before .loop .inv .1 .same)
 
 pub same-at-spec : {M : Type 1} → statement M
 same-at-spec =
@@ -53,11 +46,10 @@ same-at-spec =
     Inv-loop
     μ-loop
     loop-holds
-    add-if1
-    shared-slice-read-if1
-    shared-slice-read-if1-2
-    returns
+    add-off
+    shared-slice-read-off
+    shared-slice-read-off-2
     add-i
     loop-less
     loop-again
-    returns-2)
+    returns)
