@@ -1,25 +1,30 @@
 -- One list of rows judged after another, and what an accepted stage tells the next. Assumes nothing.
-use Prim.Native.Nat.{ℕ, _+_, _*_, _≤_, _<_}
+use Prim.Native.Nat.{ℕ, _+_, _≤_, _<_}
 use native.Mathlib.Numerals.{add-one}
-use mathlib.Core.Path.{_≡_, refl, sym, ap, _∙_}
+use mathlib.Core.Path.{_≡_, sym, ap, _∙_}
 use mathlib.Core.List.{List, _++_}
-use mathlib.Core.Bool.{Bool, true, false, not}
+use mathlib.Core.Bool.{false}
 use native.Mathlib.Omega.{arith}
 use lib.ListN.{length}
+use lib.Dec.{ltb}
 use borrow.Author.Tests.{ltb-false, eqb-false, not-false}
 use Rattle.format.specs.Checks.{Check, first, rowsBelow}
 use Rattle.format.specs.File.{directoryPosition}
 use Rattle.format.specs.Segments.{room, RoomIn, walkedAs}
 use Rattle.format.specs.Names.{nameSubBlock}
-use Rattle.format.specs.Entry.{dimensionCount, nextEntry, filePosition, headBad}
+use Rattle.format.specs.Entry.{dimensionCount, nextEntry, filePosition}
 use Rattle.format.specs.Directory.{roomEnd, directoryBad, entryPlace, headRows, tileRows, subBlockRows, entryRows}
 use Rattle.format.specs.declared.Verdict.{Verdict}
 use Rattle.format.specs.declared.Verdict.the-variants.{Accepted, Refused}
 use Rattle.format.proofs.Firsts.{first-pass, first-stop, first-both, passed, rows-zero, rows-more, rows-stop}
 use Rattle.format.proofs.Below.{none}
-use Rattle.format.proofs.SegmentLaws.{walked-room}
+use Rattle.format.proofs.SegmentLaws.{walked-room, walked-few}
 use Rattle.entries.proofs.EntryLaws.{head-ok}
-use Rattle.subblocks.specs.Judged.{Listed, Placed, Agreed, Filled}
+use Rattle.segments.specs.Walk as Walk
+use Rattle.segments.specs.Walk.{numberAs}
+use Rattle.segments.proofs.Naming.{count-is, named, below-named}
+use Rattle.subblocks.specs.Judged.{Placed, Filled}
+use Rattle.directory.specs.Marks.{Marked, Named}
 
 -- ---- the answer v of the first rows decides, or the answer w of the rows behind them
 
@@ -54,6 +59,22 @@ placed bs e few entry h = record {
   listed = record { few = few; entry = entry; dimensions = passed (tileRows bs e) h 0; pixel = eqb-false _ _ (passed (tileRows bs e) h 1) };
   within = walked-room bs (filePosition bs e) nameSubBlock (not-false _ (passed (tileRows bs e) h 4));
 }
+
+-- k is the number of the sub-block that it names, at q: what judging the sub-block rests on
+module _ (bs : List ℕ) (e k q : ℕ) (f : q ≡ filePosition bs e) (n : k ≡ numberAs bs q nameSubBlock) where
+  pub named-is : (table : List ℕ) (count : ℕ) → Walk.Filled bs table count → ltb k count ≡ walkedAs bs (filePosition bs e) nameSubBlock
+  named-is table count h = rw (n, f, count-is bs table count h) (below-named bs (filePosition bs e) nameSubBlock)
+
+  pub named-block : (flags : List ℕ) → Marked bs flags → dimensionCount bs e ≤ 16 → nextEntry bs e ≤ length bs → first (tileRows bs e) ≡ Accepted → Named bs flags k e q
+  unfolding tileRows
+  named-block flags m few entry h =
+      let s = named bs (filePosition bs e) nameSubBlock (not-false _ (passed (tileRows bs e) h 4)) in
+      rw (n, f)
+      (record {
+        placed = placed bs e few entry h;
+        stands = record { below = omega (arith, s .below, walked-few bs); at = s .stands };
+        marked = m;
+      })
 
 -- ---- a sub-block that is accepted
 

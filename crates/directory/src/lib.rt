@@ -5,12 +5,14 @@ ghost use mathlib.Core.List.{_++_};
 ghost use Prim.Native.Nat.{_+_, _*_, _<_, _≤_};
 ghost use lib.ListN.{length};
 ghost use Rattle.format.specs.Checks.{first, rowsBelow};
-ghost use Rattle.format.specs.Segments.{RoomIn};
+ghost use Rattle.format.specs.Names.{nameSubBlock};
+ghost use Rattle.format.specs.Segments.{RoomIn, walkedAs};
 ghost use Rattle.format.specs.File.{directoryPosition};
 ghost use Rattle.format.specs.Entry.{nextEntry, dimensionCount, filePosition};
 ghost use Rattle.format.specs.Directory.{roomEnd, entryPlace, directoryBad, headRows, tileRows, subBlockRows, attachmentRows, entryRows, directoryRows};
 ghost use Rattle.segments.specs.Walk.{Filled};
 ghost use Rattle.subblocks.specs.Judged.{Placed};
+ghost use Rattle.directory.specs.Marks.{Marked, Named, Fitting, Answered};
 
 // The place behind the room of the segment at d.
 fn room_end(s: &[u8], d: u64) -> u64
@@ -66,10 +68,10 @@ fn judge_head(s: &[u8], d: u64, e: u64) -> Verdict
     Verdict::Accepted
 }
 
-// The rest of the entry itself: 11, 12, 13, 7, 14.
-fn judge_tile(s: &[u8], table: &[u64; 8192], count: usize, e: u64) -> Verdict
-    requires { ⌜ Filled (now s) (now table) count ⌝ }
+// The rest of the entry itself: 11, 12, 13, 7, 14. A search in the table has told whether it names a sub-block.
+fn judge_tile(s: &[u8], e: u64, named: bool) -> Verdict
     requires { ⌜ (dimensionCount (now s) e ≤ 16) × (nextEntry (now s) e ≤ length (now s)) ⌝ }
+    requires { ⌜ named ≡ walkedAs (now s) (filePosition (now s) e) nameSubBlock ⌝ }
     ensures { λ r. ⌜ r ≡ first (tileRows (now (s .entry)) e) ⌝ }
 {
     if entries::dimensions_bad(s, e) {
@@ -96,13 +98,7 @@ fn judge_tile(s: &[u8], table: &[u64; 8192], count: usize, e: u64) -> Verdict
             place: e,
         };
     }
-    if !segments::walked_as(
-        s,
-        table,
-        count,
-        fields::u64_at(s, e + 6),
-        b"ZISRAWSUBBLOCK\0\0",
-    ) {
+    if !named {
         return Verdict::Refused {
             number: 14,
             place: e,
@@ -131,42 +127,77 @@ fn judge_sub_block(s: &[u8], e: u64, q: u64) -> Verdict
     Verdict::Accepted
 }
 
+// The chunks of the sub-block at q, walked segment k: 17, 18. They are judged once: for every entry that agrees with the sub-block they are the same.
+fn judge_chunks(s: &[u8], judged: &mut [u8; 8192], k: usize, e: u64, q: u64) -> Verdict
+    requires { ⌜ Fitting (now s) (now judged) k e q ⌝ }
+    ensures { λ r. ⌜ Answered (now (s .entry)) (attachmentRows (now (s .entry)) e (now (s .entry)) q) (now (judged .exit)) r ⌝ }
+{
+    if judged[k] != 0 {
+        return Verdict::Accepted;
+    }
+    let v = subblocks::judge_attachment(s, e, s, q);
+    match v {
+        Verdict::Refused { number, place } => Verdict::Refused { number, place },
+        Verdict::Accepted => {
+            judged[k] = 1;
+            Verdict::Accepted
+        }
+    }
+}
+
 // The sub-block and its attachment's chunks: 15, 16, 17, 18.
-fn judge_block(s: &[u8], e: u64, q: u64) -> Verdict
-    requires { ⌜ Placed (now s) e (now s) q ⌝ }
-    ensures { λ r. ⌜ r ≡ first (subBlockRows (now (s .entry)) e (now (s .entry)) q ++ attachmentRows (now (s .entry)) e (now (s .entry)) q) ⌝ }
+fn judge_block(s: &[u8], judged: &mut [u8; 8192], k: usize, e: u64, q: u64) -> Verdict
+    requires { ⌜ Named (now s) (now judged) k e q ⌝ }
+    ensures { λ r. ⌜ Answered (now (s .entry)) (subBlockRows (now (s .entry)) e (now (s .entry)) q ++ attachmentRows (now (s .entry)) e (now (s .entry)) q) (now (judged .exit)) r ⌝ }
 {
     let v = judge_sub_block(s, e, q);
     match v {
         Verdict::Refused { number, place } => Verdict::Refused { number, place },
-        Verdict::Accepted => subblocks::judge_attachment(s, e, s, q),
+        Verdict::Accepted => judge_chunks(s, judged, k, e, q),
     }
 }
 
 // An entry whose head is right, and its sub-block: 11, 12, 13, 7, 14 to 18.
-fn judge_body(s: &[u8], table: &[u64; 8192], count: usize, e: u64) -> Verdict
+fn judge_body(
+    s: &[u8],
+    table: &[u64; 8192],
+    count: usize,
+    judged: &mut [u8; 8192],
+    e: u64,
+) -> Verdict
     requires { ⌜ Filled (now s) (now table) count ⌝ }
+    requires { ⌜ Marked (now s) (now judged) ⌝ }
     requires { ⌜ (dimensionCount (now s) e ≤ 16) × (nextEntry (now s) e ≤ length (now s)) ⌝ }
-    ensures { λ r. ⌜ r ≡ first (tileRows (now (s .entry)) e ++ (subBlockRows (now (s .entry)) e (now (s .entry)) (filePosition (now (s .entry)) e) ++ attachmentRows (now (s .entry)) e (now (s .entry)) (filePosition (now (s .entry)) e))) ⌝ }
+    ensures { λ r. ⌜ Answered (now (s .entry)) (tileRows (now (s .entry)) e ++ (subBlockRows (now (s .entry)) e (now (s .entry)) (filePosition (now (s .entry)) e) ++ attachmentRows (now (s .entry)) e (now (s .entry)) (filePosition (now (s .entry)) e))) (now (judged .exit)) r ⌝ }
 {
-    let v = judge_tile(s, table, count, e);
+    let q = fields::u64_at(s, e + 6);
+    let k = segments::number_as(s, table, count, q, b"ZISRAWSUBBLOCK\0\0");
+    let v = judge_tile(s, e, k < count);
     match v {
         Verdict::Refused { number, place } => Verdict::Refused { number, place },
-        Verdict::Accepted => judge_block(s, e, fields::u64_at(s, e + 6)),
+        Verdict::Accepted => judge_block(s, judged, k, e, q),
     }
 }
 
 // The entry at e of the directory at d.
-fn judge_entry(s: &[u8], table: &[u64; 8192], count: usize, d: u64, e: u64) -> Verdict
+fn judge_entry(
+    s: &[u8],
+    table: &[u64; 8192],
+    count: usize,
+    judged: &mut [u8; 8192],
+    d: u64,
+    e: u64,
+) -> Verdict
     requires { ⌜ Filled (now s) (now table) count ⌝ }
+    requires { ⌜ Marked (now s) (now judged) ⌝ }
     requires { ⌜ RoomIn (now s) d ⌝ }
     requires { ⌜ e ≤ roomEnd (now s) d ⌝ }
-    ensures { λ r. ⌜ r ≡ first (entryRows (now (s .entry)) d e) ⌝ }
+    ensures { λ r. ⌜ Answered (now (s .entry)) (entryRows (now (s .entry)) d e) (now (judged .exit)) r ⌝ }
 {
     let v = judge_head(s, d, e);
     match v {
         Verdict::Refused { number, place } => Verdict::Refused { number, place },
-        Verdict::Accepted => judge_body(s, table, count, e),
+        Verdict::Accepted => judge_body(s, table, count, judged, e),
     }
 }
 
@@ -177,10 +208,11 @@ fn judge_entries(s: &[u8], table: &[u64; 8192], count: usize, d: u64, n: u64) ->
     requires { ⌜ (d ≡ directoryPosition (now s)) × (d + 160 ≤ roomEnd (now s) d) ⌝ }
     ensures { λ r. ⌜ r ≡ first (rowsBelow n (λ k. entryRows (now (s .entry)) d (entryPlace (now (s .entry)) k))) ⌝ }
 {
+    let mut judged = [0u8; 8192];
     let mut e = d + 160;
     let mut k: u64 = 0;
     while k < n {
-        let v = judge_entry(s, table, count, d, e);
+        let v = judge_entry(s, table, count, &mut judged, d, e);
         match v {
             Verdict::Refused { number, place } => {
                 return Verdict::Refused { number, place };

@@ -1,10 +1,13 @@
--- What a walk answers, and the table that it leaves.
+-- What a walk answers, the table that it leaves, and the numbers of walked segments in it.
 use Prim.Native.Nat.{ℕ, _≤_}
 use mathlib.Core.Path.{_≡_}
 use mathlib.Core.List.{List, _++_}
-use lib.ListN.{length, take, drop}
+use mathlib.Core.Bool.{cond}
+use lib.ListN.{length, take, drop, getD}
+use lib.Dec.{eqb}
+use Rattle.format.specs.Bytes.{leastBelow}
 use Rattle.format.specs.Checks.{ifAccepted}
-use Rattle.format.specs.Segments.{walked}
+use Rattle.format.specs.Segments.{walked, walkedAs}
 use Rattle.format.specs.declared.Verdict.{Verdict}
 use Rattle.segments.specs.declared.Walked.{Walked}
 
@@ -28,3 +31,11 @@ pub record Filled (bs table : List ℕ) (count : ℕ) : Type 0 where
   pub size : length table ≡ 8192
   pub few : count ≤ 8192
   pub holds : take count table ≡ walked bs
+
+-- the number of q in l, counted from 0; the length of l where it is not there
+unfoldable pub numberIn : ℕ → List ℕ → ℕ
+numberIn q l = leastBelow (length l) (λ k. eqb (getD l k 0) q)
+
+-- the number of the walked segment that q names, of the kind that has that name; the number of all where there is none
+unfoldable pub numberAs : List ℕ → ℕ → List ℕ → ℕ
+numberAs bs q name = cond (walkedAs bs q name) (numberIn q (walked bs)) (length (walked bs))

@@ -5,9 +5,9 @@ ghost use lib.ListN.{length, take};
 ghost use Rattle.format.specs.Bytes.{sameAt};
 ghost use Rattle.format.specs.Names.{nameFile, nameDirectory, nameSubBlock, nameMetadata, nameAttachment, nameAttachmentDirectory, nameDeleted};
 ghost use Rattle.format.specs.Checks.{first};
-ghost use Rattle.format.specs.Segments.{allocatedSize, usedSize, room, lengthBad, nameBad, allocatedBad, usedBad, endBad, sizesBad, roleBad, segmentRows, walkRows, walkedFrom, walked, segmentsRows, member, walkedAs};
+ghost use Rattle.format.specs.Segments.{allocatedSize, usedSize, room, lengthBad, nameBad, allocatedBad, usedBad, endBad, sizesBad, roleBad, segmentRows, walkRows, walkedFrom, walked, segmentsRows, walkedAs};
 ghost use Rattle.format.proofs.SegmentLaws.{Rising};
-ghost use Rattle.segments.specs.Walk.{Answered, Filled, Judged};
+ghost use Rattle.segments.specs.Walk.{Answered, Filled, Judged, numberIn, numberAs};
 use fields::same_at;
 use fields::u64_at;
 use format::Verdict;
@@ -316,11 +316,11 @@ pub fn judge_segments(s: &[u8]) -> Walked
     walk(s, &mut table)
 }
 
-// Whether q is one of the first count positions of the table, which rise.
-pub fn is_walked(table: &[u64; 8192], count: usize, q: u64) -> bool
+// The number of q among the first count positions of the table, which rise; count where it is none of them.
+fn number_in(table: &[u64; 8192], count: usize, q: u64) -> usize
     requires { ⌜ (count ≤ 8192) × (length (now table) ≡ 8192) ⌝ }
     requires { ⌜ Rising (take count (now table)) ⌝ }
-    ensures { λ r. ⌜ r ≡ member q (take count (now (table .entry))) ⌝ }
+    ensures { λ r. ⌜ r ≡ numberIn q (take count (now (table .entry))) ⌝ }
 {
     let mut lo: usize = 0;
     let mut hi = count;
@@ -328,7 +328,7 @@ pub fn is_walked(table: &[u64; 8192], count: usize, q: u64) -> bool
         let mid = lo + (hi - lo) / 2;
         let at = table[mid];
         if at == q {
-            return true;
+            return mid;
         }
         if at < q {
             lo = mid + 1;
@@ -336,17 +336,30 @@ pub fn is_walked(table: &[u64; 8192], count: usize, q: u64) -> bool
             hi = mid;
         }
     }
-    false
+    count
 }
 
-// Whether q names a walked segment of the kind that has that name, by the table that a walk filled.
+// The number of the walked segment that q names, of the kind that has that name, by the table that a walk filled; count where there is none.
+pub fn number_as(s: &[u8], table: &[u64; 8192], count: usize, q: u64, name: &[u8]) -> usize
+    requires { ⌜ Filled (now s) (now table) count ⌝ }
+    requires { ⌜ length (now name) ≤ 32 ⌝ }
+    ensures { λ r. ⌜ r ≡ numberAs (now (s .entry)) q (now (name .entry)) ⌝ }
+{
+    let k = number_in(table, count, q);
+    if k == count {
+        return count;
+    }
+    if same_at(s, q, name) {
+        return k;
+    }
+    count
+}
+
+// Whether q names a walked segment of the kind that has that name.
 pub fn walked_as(s: &[u8], table: &[u64; 8192], count: usize, q: u64, name: &[u8]) -> bool
     requires { ⌜ Filled (now s) (now table) count ⌝ }
     requires { ⌜ length (now name) ≤ 32 ⌝ }
     ensures { λ r. ⌜ r ≡ walkedAs (now (s .entry)) q (now (name .entry)) ⌝ }
 {
-    if is_walked(table, count, q) {
-        return same_at(s, q, name);
-    }
-    false
+    number_as(s, table, count, q, name) < count
 }

@@ -1,7 +1,8 @@
+use mathlib.Core.Path.{sym, _∙_}
 use denote.Ref.{now}
-use Rattle.format.specs.Directory.{headRows, tileRows, subBlockRows, attachmentRows, entryRows}
-use mathlib.Core.Path.{_≡_, refl, sym, ap, _∙_}
-use Rattle.directory.proofs.Stages.{then-stop, then-next, headed, placed, filled, entry-next}
+use Rattle.format.specs.Directory.{subBlockRows, attachmentRows}
+use Rattle.directory.proofs.Stages.{filled}
+use Rattle.directory.proofs.Marking.{answered-stop, answered-next}
 use borrow.Author.Needs.{needs}
 use Rattle.directory.proofs.judge_block.Statement.{statement}
 use Rattle.directory.proofs.judge_block.Tie as tie
@@ -15,20 +16,26 @@ enum-known-v c = search needs
 enum-told : tie.Need-enum-told
 enum-told c = search needs
 
-judge-attachment-requires : tie.Need-judge-attachment-requires
-judge-attachment-requires c κs = filled _ _ _ (c .before .before .before .before .pre) (sym (c .before .before .judge-sub-block .ensures) ∙ c .enum-told .given .1)
+judge-chunks-requires : tie.Need-judge-chunks-requires
+judge-chunks-requires c κs =
+    let p = c .before .before .before .before .before .pre in
+    record {
+      filled = filled _ _ _ (p .placed) (sym (c .before .before .before .judge-sub-block .ensures) ∙ c .before .enum-told .given .1);
+      stands = p .stands;
+      marked = p .marked;
+    }
 
 returns : tie.Need-returns
 returns c =
     let a = c .before .before .before .before .before .args in
     let bs = now (a .s) in
-    then-stop _ (subBlockRows bs (a .e) bs (a .q)) (attachmentRows bs (a .e) bs (a .q)) _ _ (c .before .before .before .judge-sub-block .ensures) (c .before .v .given .1)
+    answered-stop bs _ _ (subBlockRows bs (a .e) bs (a .q)) (attachmentRows bs (a .e) bs (a .q)) _ _ (c .before .before .before .before .before .pre .marked) (c .before .before .before .judge-sub-block .ensures) (c .before .v .given .1)
 
 returns-2 : tie.Need-returns-2
 returns-2 c =
-    let a = c .before .before .before .before .before .args in
+    let a = c .before .before .before .before .before .before .args in
     let bs = now (a .s) in
-    then-next _ _ (subBlockRows bs (a .e) bs (a .q)) (attachmentRows bs (a .e) bs (a .q)) (c .before .before .before .judge-sub-block .ensures) (c .before .enum-told .given .1) (c .judge-attachment .ensures)
+    answered-next bs _ _ _ (subBlockRows bs (a .e) bs (a .q)) (attachmentRows bs (a .e) bs (a .q)) (c .before .before .before .before .judge-sub-block .ensures) (c .before .before .enum-told .given .1) (c .judge-chunks .ensures)
 
 pub judge-block-spec : {M : Type 1} → statement M
 judge-block-spec =
@@ -37,6 +44,6 @@ judge-block-spec =
     judge-sub-block-requires
     enum-known-v
     enum-told
-    judge-attachment-requires
+    judge-chunks-requires
     returns
     returns-2)

@@ -1,8 +1,6 @@
 use Rattle.format.proofs.Flags.{flags}
-use mathlib.Core.Path.{_≡_, refl, sym, ap, _∙_}
-use Rattle.directory.proofs.Stages.{then-stop, then-next, headed, placed, filled, entry-next}
+use mathlib.Core.Path.{sym, _∙_}
 use Rattle.format.specs.Directory.{subBlockRows}
-use Rattle.subblocks.specs.Judged.{Agreed}
 use borrow.Author.Needs.{needs}
 use Rattle.directory.proofs.judge_sub_block.Statement.{statement}
 use Rattle.directory.proofs.judge_sub_block.Tie as tie

@@ -1,11 +1,7 @@
 use native.Mathlib.Omega.{arith}
 use Rattle.format.proofs.Flags.{cond-true, cond-false, is-true, is-false, is-true-not, is-false-not, not-is-true, not-is-false, eq-yes, eq-no}
-use mathlib.Core.Path.{_≡_, refl, sym, ap, _∙_}
-use denote.Ref.{now}
-use Prim.Native.Nat.{ℕ}
-use Rattle.format.specs.Names.{nameSubBlock}
-use Rattle.format.specs.Segments.{walkedAs}
-use Rattle.format.specs.Entry.{nextEntry, pixelType, pixelBytes, compression, entryPart, filePosition}
+use mathlib.Core.Path.{refl, ap, _∙_}
+use Rattle.format.specs.Entry.{nextEntry, pixelType, pixelBytes, compression, entryPart}
 use Rattle.format.specs.Directory.{tileRows}
 use borrow.Author.Needs.{needs}
 use Rattle.directory.proofs.judge_tile.Statement.{statement}
@@ -30,7 +26,7 @@ pixel-bytes-requires : tie.Need-pixel-bytes-requires
 pixel-bytes-requires c κs = search needs
 
 returns-2 : tie.Need-returns-2
-unfolding tileRows pixelType compression entryPart filePosition nameSubBlock
+unfolding tileRows pixelType compression entryPart
 returns-2 c =
     (cond-false _ _ _ _ (is-false _ _ (c .before .before .before .before .dimensions-bad .ensures) (c .before .before .before .if1 .left))
     (cond-true _ _ _ _ (eq-yes _ _ _ (c .before .pixel-bytes .ensures ∙ ap pixelBytes (c .before .before .u32-at .ensures .0)) (c .if2 .taken)) refl))
@@ -44,7 +40,7 @@ unfolding nextEntry
 u32-at-requires-2 c κs = omega arith
 
 returns-3 : tie.Need-returns-3
-unfolding tileRows pixelType compression entryPart filePosition nameSubBlock
+unfolding tileRows pixelType compression entryPart
 returns-3 c =
     (cond-false _ _ _ _ (is-false _ _ (c .before .before .before .before .before .before .dimensions-bad .ensures) (c .before .before .before .before .before .if1 .left))
     (cond-false _ _ _ _ (eq-no _ _ _ (c .before .before .before .pixel-bytes .ensures ∙ ap pixelBytes (c .before .before .before .before .u32-at .ensures .0)) (c .before .before .if2 .left))
@@ -59,44 +55,30 @@ unfolding nextEntry
 u32-at-requires-3 c κs = omega arith
 
 returns-4 : tie.Need-returns-4
-unfolding tileRows pixelType compression entryPart filePosition nameSubBlock
+unfolding tileRows pixelType compression entryPart
 returns-4 c =
     (cond-false _ _ _ _ (is-false _ _ (c .before .before .before .before .before .before .before .before .dimensions-bad .ensures) (c .before .before .before .before .before .before .before .if1 .left))
     (cond-false _ _ _ _ (eq-no _ _ _ (c .before .before .before .before .before .pixel-bytes .ensures ∙ ap pixelBytes (c .before .before .before .before .before .before .u32-at .ensures .0)) (c .before .before .before .before .if2 .left))
     (cond-false _ _ _ _ (not-is-false _ (eq-yes _ _ _ (c .before .before .before .u32-at2 .ensures .0) (c .before .before .if3 .left)))
     (cond-true _ _ _ _ (not-is-true _ (eq-no _ _ _ (c .before .u32-at3 .ensures .0) (c .if4 .taken))) refl))))
 
-add-u64-at : tie.Need-add-u64-at
-unfolding nextEntry
-add-u64-at c = omega arith
-
-u64-at-requires : tie.Need-u64-at-requires
-unfolding nextEntry
-u64-at-requires c κs = omega arith
-
-slice-aggregate-walked-as : tie.Need-slice-aggregate-walked-as
-slice-aggregate-walked-as c = search needs
-
-walked-as-requires : tie.Need-walked-as-requires
-walked-as-requires c κs = search needs
-
 returns-5 : tie.Need-returns-5
-unfolding tileRows pixelType compression entryPart filePosition nameSubBlock
+unfolding tileRows pixelType compression entryPart
 returns-5 c =
-    (cond-false _ _ _ _ (is-false _ _ (c .before .before .before .before .before .before .before .before .before .before .before .before .dimensions-bad .ensures) (c .before .before .before .before .before .before .before .before .before .before .before .if1 .left))
-    (cond-false _ _ _ _ (eq-no _ _ _ (c .before .before .before .before .before .before .before .before .before .pixel-bytes .ensures ∙ ap pixelBytes (c .before .before .before .before .before .before .before .before .before .before .u32-at .ensures .0)) (c .before .before .before .before .before .before .before .before .if2 .left))
-    (cond-false _ _ _ _ (not-is-false _ (eq-yes _ _ _ (c .before .before .before .before .before .before .before .u32-at2 .ensures .0) (c .before .before .before .before .before .before .if3 .left)))
-    (cond-false _ _ _ _ (not-is-false _ (eq-yes _ _ _ (c .before .before .before .before .before .u32-at3 .ensures .0) (c .before .before .before .before .if4 .left)))
-    (cond-true _ _ _ _ (not-is-true _ (is-false-not _ _ (c .before .walked-as .ensures ∙ ap (λ (q : ℕ). walkedAs (now (c .before .before .before .before .before .before .before .before .before .before .before .before .before .before .args .s)) q nameSubBlock) (c .before .before .before .u64-at .ensures)) (c .if5 .taken))) refl)))))
+    (cond-false _ _ _ _ (is-false _ _ (c .before .before .before .before .before .before .before .before .before .dimensions-bad .ensures) (c .before .before .before .before .before .before .before .before .if1 .left))
+    (cond-false _ _ _ _ (eq-no _ _ _ (c .before .before .before .before .before .before .pixel-bytes .ensures ∙ ap pixelBytes (c .before .before .before .before .before .before .before .u32-at .ensures .0)) (c .before .before .before .before .before .if2 .left))
+    (cond-false _ _ _ _ (not-is-false _ (eq-yes _ _ _ (c .before .before .before .before .u32-at2 .ensures .0) (c .before .before .before .if3 .left)))
+    (cond-false _ _ _ _ (not-is-false _ (eq-yes _ _ _ (c .before .before .u32-at3 .ensures .0) (c .before .if4 .left)))
+    (cond-true _ _ _ _ (not-is-true _ (is-false-not _ _ (c .before .before .before .before .before .before .before .before .before .before .before .pre .1) (c .if5 .taken))) refl)))))
 
 returns-6 : tie.Need-returns-6
-unfolding tileRows pixelType compression entryPart filePosition nameSubBlock
+unfolding tileRows pixelType compression entryPart
 returns-6 c =
-    (cond-false _ _ _ _ (is-false _ _ (c .before .before .before .before .before .before .before .before .before .before .before .before .dimensions-bad .ensures) (c .before .before .before .before .before .before .before .before .before .before .before .if1 .left))
-    (cond-false _ _ _ _ (eq-no _ _ _ (c .before .before .before .before .before .before .before .before .before .pixel-bytes .ensures ∙ ap pixelBytes (c .before .before .before .before .before .before .before .before .before .before .u32-at .ensures .0)) (c .before .before .before .before .before .before .before .before .if2 .left))
-    (cond-false _ _ _ _ (not-is-false _ (eq-yes _ _ _ (c .before .before .before .before .before .before .before .u32-at2 .ensures .0) (c .before .before .before .before .before .before .if3 .left)))
-    (cond-false _ _ _ _ (not-is-false _ (eq-yes _ _ _ (c .before .before .before .before .before .u32-at3 .ensures .0) (c .before .before .before .before .if4 .left)))
-    (cond-false _ _ _ _ (not-is-false _ (is-true-not _ _ (c .before .walked-as .ensures ∙ ap (λ (q : ℕ). walkedAs (now (c .before .before .before .before .before .before .before .before .before .before .before .before .before .before .args .s)) q nameSubBlock) (c .before .before .before .u64-at .ensures)) (c .if5 .left))) refl)))))
+    (cond-false _ _ _ _ (is-false _ _ (c .before .before .before .before .before .before .before .before .before .dimensions-bad .ensures) (c .before .before .before .before .before .before .before .before .if1 .left))
+    (cond-false _ _ _ _ (eq-no _ _ _ (c .before .before .before .before .before .before .pixel-bytes .ensures ∙ ap pixelBytes (c .before .before .before .before .before .before .before .u32-at .ensures .0)) (c .before .before .before .before .before .if2 .left))
+    (cond-false _ _ _ _ (not-is-false _ (eq-yes _ _ _ (c .before .before .before .before .u32-at2 .ensures .0) (c .before .before .before .if3 .left)))
+    (cond-false _ _ _ _ (not-is-false _ (eq-yes _ _ _ (c .before .before .u32-at3 .ensures .0) (c .before .if4 .left)))
+    (cond-false _ _ _ _ (not-is-false _ (is-true-not _ _ (c .before .before .before .before .before .before .before .before .before .before .before .pre .1) (c .if5 .left))) refl)))))
 
 pub judge-tile-spec : {M : Type 1} → statement M
 judge-tile-spec =
@@ -114,9 +96,5 @@ judge-tile-spec =
     add-u32-at-3
     u32-at-requires-3
     returns-4
-    add-u64-at
-    u64-at-requires
-    slice-aggregate-walked-as
-    walked-as-requires
     returns-5
     returns-6)

@@ -1,13 +1,12 @@
 use Prim.Native.Nat.{_+_, _-_, _/_, _≤_, _<_}
 use native.Mathlib.Omega.{arith}
-use mathlib.Core.Path.{sym}
+use mathlib.Core.Path.{sym, _∙_}
 use lib.ListN.{take}
 use lib.Seq.{getD-take, length-take-le}
 use denote.Ref.{now}
-use Rattle.format.proofs.Members.{member-at}
-use Rattle.segments.proofs.Search.{Between, start, up, down, done}
-use Rattle.segments.proofs.is_walked.Statement.{statement}
-use Rattle.segments.proofs.is_walked.Tie as tie
+use Rattle.segments.proofs.Search.{Between, start, up, down, met, done}
+use Rattle.segments.proofs.number_in.Statement.{statement}
+use Rattle.segments.proofs.number_in.Tie as tie
 
 abbrev Inv-loop : tie.InvT-loop
 Inv-loop table count q lo₀ hi₀ lo hi = (hi ≤ count) × Between (take count table) q lo hi
@@ -36,7 +35,7 @@ returns c =
     let a = l .before .args in
     let m = l .loop .lo + (l .loop .hi - l .loop .lo) / 2 in
     let in-count : m < a .count = omega arith in
-    sym (member-at (take (a .count) (now (a .table))) (a .q) m (omega (arith, l .loop .inv .1 .within)) (rw getD-take (c .if1 .taken)))
+    sym (met (take (a .count) (now (a .table))) (a .q) m (l .before .pre .1) (omega (arith, l .loop .inv .1 .within)) (rw getD-take (c .if1 .taken)))
 
 add-lo : tie.Need-add-lo Inv-loop μ-loop
 add-lo c = omega arith
@@ -64,10 +63,12 @@ loop-again-2 c =
     (omega arith, down (take (a .count) (now (a .table))) (a .q) _ _ m (l .before .pre .1) (l .loop .inv .1) (omega arith) (omega arith) (rw getD-take (omega arith)))
 
 returns-2 : tie.Need-returns-2 Inv-loop μ-loop
-returns-2 c = sym (done _ _ _ _ (c .before .loop .inv .1) (c .loop-test .left))
+returns-2 c =
+    let a = c .before .before .args in
+    sym (done _ _ _ _ (c .before .loop .inv .1) (c .loop-test .left) ∙ length-take-le (a .count) (now (a .table)) (omega arith))
 
-pub is-walked-spec : {M : Type 1} → statement M
-is-walked-spec =
+pub number-in-spec : {M : Type 1} → statement M
+number-in-spec =
     tie.close
     (tie.spec
     Inv-loop

@@ -1,0 +1,2 @@
+-- What judging an entry answers.
+pub mod Marks
