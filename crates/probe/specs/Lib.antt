@@ -1,0 +1,2 @@
+-- What the functions for measurement answer.
+pub mod Equal
