@@ -1,127 +1,169 @@
-//! Measures the library: `cargo run --offline --release -p bench`. Prints the tables of docs/BENCHMARKS.md.
+//! Measures the library: `cargo run --offline --profile measure -p bench`. docs/BENCHMARKS.md says how each measure is
+//! taken and has a run. The first table holds the figures to reach against their limits; the exit status says nothing.
 
-#![forbid(unsafe_code)]
+#![deny(unsafe_code)]
 
+mod bits;
+mod leaves;
 mod mosaic;
+mod native;
+mod planes;
+#[cfg(probe)]
+#[allow(unsafe_code)]
+mod probe;
+mod table;
 mod timing;
+mod whole;
 
-use czi::{compose_plain, compose_quick, Counted, Masks, PixelType, Question, Refusal, Scene};
-use mosaic::{Grid, Mosaic, TileMasks};
-use std::hint::black_box;
-use timing::{both, row};
+use czi::PixelType;
+use mosaic::TileMask;
+use table::{table, Line};
+use whole::Times;
 
-/// Repetitions of each measure.
-const TIMES: usize = 7;
+const USAGE: &str = "\
+usage: bench [--markdown] [--limits] [--times N]
+  --markdown  tables in Markdown
+  --limits    the first table alone: the figures to reach
+  --times N   so many repetitions of each measure, of which the least counts (41)
+";
 
-type Composer = fn(&[u8], &Question, &mut [u8], &mut [u8]) -> Result<Counted, Refusal>;
+/// The pixel types measured, one for each number of bytes.
+const PIXEL_TYPES: [PixelType; 4] = [
+    PixelType::Gray16,
+    PixelType::Bgr24,
+    PixelType::Bgr48,
+    PixelType::Gray8,
+];
+
+struct Options {
+    markdown: bool,
+    limits: bool,
+    times: usize,
+}
 
 fn main() {
-    println!("Judging, against the reference's judge:\n");
-    println!("| file | library, ms | reference, ms | ratio |\n|---|---|---|---|");
-    judge("4,096 tiles of 16 × 16, 8,192 segments", TileMasks::None);
-    judge("the same, each with a mask", TileMasks::AllValid);
-    println!("\nA whole call on 4,096 × 4,096 from 25 tiles of 900 × 900, against a fill of target and map and a copy of each tile's rows:\n");
-    println!("| call | library, ms | native, ms | ratio |\n|---|---|---|---|");
-    for (pixel_type, of) in [
-        (PixelType::Gray8, 0),
-        (PixelType::Gray16, 1),
-        (PixelType::Bgr24, 3),
-        (PixelType::Bgr48, 4),
-    ] {
-        for masks in [TileMasks::None, TileMasks::AllValid, TileMasks::HalfValid] {
-            compose(pixel_type, of, masks);
-        }
-    }
-}
-
-/// One row: a file at the limits of segments and entries.
-fn judge(name: &str, masks: TileMasks) {
-    let grid = Grid {
-        pixel_type: 0,
-        columns: 64,
-        side: 16,
-        step: 16,
-        masks,
-        deleted: 4094,
+    let Some(options) = options() else {
+        eprint!("{USAGE}");
+        std::process::exit(2);
     };
-    let file = grid.mosaic().bytes;
-    let times = both(
-        TIMES,
-        || czi::judge(black_box(&file)).expect("an accepted file"),
-        || {
-            black_box(reference::judge(black_box(&file)).is_ok());
-        },
-    );
-    println!("{}", row(name, times));
-}
-
-/// A row for each composer.
-fn compose(pixel_type: PixelType, number: i32, masks: TileMasks) {
-    let grid = Grid {
-        pixel_type: number,
-        columns: 5,
-        side: 900,
-        step: 799,
-        masks,
-        deleted: 0,
-    };
-    let mosaic = grid.mosaic();
-    let (side, pixel) = (grid.plane(), grid.pixel());
-    let background = vec![0; pixel];
-    let question = Question {
-        starts: &[],
-        scene: Scene::AsStarts,
-        pixel_type,
-        background: &background,
-        left: 0,
-        top: 0,
-        width: side as u32,
-        height: side as u32,
-        masks: if masks == TileMasks::None {
-            Masks::Off
-        } else {
-            Masks::On
-        },
-    };
-    let mut target = vec![0; question.target_length() as usize];
-    let mut map = vec![0; question.map_length() as usize];
-    let mut copied = target.clone();
-    let mut cleared = map.clone();
-    let composers: [(&str, Composer); 2] = [("quick", compose_quick), ("plain", compose_plain)];
-    for (name, composer) in composers {
-        let times = both(
-            TIMES,
-            || {
-                composer(&mosaic.bytes, &question, &mut target, &mut map).expect("an answer");
-            },
-            || copy(&grid, &mosaic, &mut copied, &mut cleared),
-        );
-        let of = match masks {
-            TileMasks::None => "no masks",
-            TileMasks::AllValid => "masks on, all valid",
-            TileMasks::HalfValid => "masks on, half valid",
-        };
+    if cfg!(debug_assertions) {
         println!(
-            "{}",
-            row(&format!("{name}, {pixel} bytes a pixel, {of}"), times)
+            "Built with overflow checks, which slow the native sides: use --profile measure.\n"
         );
     }
-    if masks == TileMasks::None {
-        assert!(target == copied, "the library composes what the copy does");
+    let times = options.times;
+    println!("Least of {times} repetitions, the sides in turn. Ratios of one run.\n");
+    let (limits, others) = measure(&options);
+    println!("{}", table(&limits, options.markdown));
+    if cfg!(not(probe)) {
+        println!("256-byte equal range / memcmp: not measured, libprobe.a was not there (rt staticlib probe).\n");
+    }
+    if !options.limits {
+        println!("{}", table(&others, options.markdown));
     }
 }
 
-/// What native code would do for tiles without masks, bottom tile first.
-fn copy(grid: &Grid, mosaic: &Mosaic, target: &mut [u8], map: &mut [u8]) {
-    target.fill(0);
-    map.fill(0);
-    let line = grid.side * grid.pixel();
-    for &(left, top, pixels) in &mosaic.tiles {
-        for y in 0..grid.side {
-            let to = ((top + y) * grid.plane() + left) * grid.pixel();
-            let from = pixels + y * line;
-            target[to..to + line].copy_from_slice(&mosaic.bytes[from..from + line]);
+fn options() -> Option<Options> {
+    let mut options = Options {
+        markdown: false,
+        limits: false,
+        times: 41,
+    };
+    let mut words = std::env::args().skip(1);
+    while let Some(word) = words.next() {
+        match word.as_str() {
+            "--markdown" => options.markdown = true,
+            "--limits" => options.limits = true,
+            "--times" => options.times = words.next()?.parse().ok().filter(|&n| n > 0)?,
+            _ => return None,
         }
     }
-    black_box(&map);
+    Some(options)
+}
+
+/// The lines with a limit, and the others.
+fn measure(options: &Options) -> (Vec<Line>, Vec<Line>) {
+    let (mut limits, mut others) = (Vec::new(), Vec::new());
+    let bare = each(PIXEL_TYPES, TileMask::None, options.times);
+    for (pixel, times) in &bare {
+        let at_most = if *pixel == 1 { 1.35 } else { 1.20 };
+        let measure = format!("whole quick call, {} / native", bytes(*pixel));
+        limits.push(Line::new(measure, times.quick, times.native).at_most(at_most));
+    }
+    for (pixel, times) in &bare {
+        let at_most = if *pixel == 1 { 1.45 } else { 1.35 };
+        let measure = format!("whole plain call, {} / native", bytes(*pixel));
+        limits.push(Line::new(measure, times.plain, times.native).at_most(at_most));
+    }
+    let valid = if options.limits {
+        each([PixelType::Gray16], TileMask::AllValid, options.times)
+    } else {
+        each(PIXEL_TYPES, TileMask::AllValid, options.times)
+    };
+    for (pixel, times) in &valid {
+        let measure = format!("masks on, all valid / masks off, quick, {}", bytes(*pixel));
+        let line = Line::new(measure, times.quick, times.quick_off);
+        match pixel {
+            2 => limits.push(line.at_most(1.4)),
+            _ => others.push(line),
+        }
+    }
+    for pixel_type in [PixelType::Gray8, PixelType::Gray16] {
+        let measure = |map| {
+            let pixel = bytes(pixel_type.bytes());
+            format!("{map} map bits, {pixel} / per-pixel loop")
+        };
+        let [turn, each_pixel] = bits::turn(pixel_type, TileMask::Random, options.times);
+        limits.push(Line::new(measure("random"), turn, each_pixel).at_most(3.5));
+        if !options.limits {
+            let [turn, each_pixel] = bits::turn(pixel_type, TileMask::Alternating, options.times);
+            others.push(Line::new(measure("alternating"), turn, each_pixel));
+        }
+    }
+    let [library, reference] = leaves::judge(TileMask::None, options.times);
+    let measure = "judge of 4,096 tiles, no attachments / reference";
+    limits.push(Line::new(measure, library, reference).at_most(1.5));
+    #[cfg(probe)]
+    {
+        let [library, native] = leaves::equal_range(options.times);
+        let line = Line::new("256-byte equal range / memcmp", library, native);
+        limits.push(line.per(leaves::COMPARISONS).at_most(1.6));
+    }
+    if !options.limits {
+        let [library, reference] = leaves::judge(TileMask::AllValid, options.times);
+        let measure = "judge of 4,096 tiles, each with a mask / reference";
+        others.push(Line::new(measure, library, reference));
+        let half = each(PIXEL_TYPES, TileMask::HalfValid, options.times);
+        for (masks, calls) in [("all valid", &valid), ("half valid", &half)] {
+            for (pixel, times) in calls {
+                let measure = |composer| {
+                    let pixel = bytes(*pixel);
+                    format!("whole {composer} call, masks on, {masks}, {pixel} / native")
+                };
+                others.push(Line::new(measure("quick"), times.quick, times.native));
+                others.push(Line::new(measure("plain"), times.plain, times.native));
+            }
+        }
+    }
+    (limits, others)
+}
+
+/// The whole calls for each pixel type, with its bytes a pixel.
+fn each<const N: usize>(
+    pixel_types: [PixelType; N],
+    mask: TileMask,
+    times: usize,
+) -> Vec<(usize, Times)> {
+    let calls = |pixel_type: PixelType| {
+        let calls = whole::calls(pixel_type, mask, times);
+        (pixel_type.bytes(), calls)
+    };
+    pixel_types.into_iter().map(calls).collect()
+}
+
+fn bytes(pixel: usize) -> String {
+    match pixel {
+        1 => "1 byte".into(),
+        _ => format!("{pixel} bytes"),
+    }
 }

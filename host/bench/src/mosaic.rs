@@ -1,82 +1,78 @@
-//! Mosaics to measure with: a grid of tiles that overlap, with masks or without.
+//! Files to measure with: square tiles of drawn pixels, with masks or without.
 
-use generate::{bytes_a_pixel, Kind, Random, MARKER, MASK_GUID};
+use czi::PixelType;
+use generate::{Kind, Random, MARKER, MASK_GUID};
 
-/// What the masks of a mosaic's tiles are.
+/// The valid pixels of a tile.
 #[derive(Clone, Copy, Debug, PartialEq, Eq)]
-pub enum TileMasks {
-    /// No tile has one.
+pub enum TileMask {
+    /// All, and there is no mask.
     None,
-    /// Every pixel is valid.
+    /// All, by a mask.
     AllValid,
-    /// Eight valid pixels of a line, then eight that are not.
+    /// Eight pixels of a line, then eight that are not.
     HalfValid,
+    /// Every second pixel.
+    Alternating,
+    /// Each by lot, half of them.
+    Random,
 }
 
-/// A grid of square tiles.
+/// A square tile.
 #[derive(Clone, Copy, Debug)]
-pub struct Grid {
-    /// The tiles' pixel type.
-    pub pixel_type: i32,
-    /// So many columns, and as many rows.
-    pub columns: usize,
-    /// A tile's side in pixels.
+pub struct Tile {
+    /// Its left column.
+    pub left: usize,
+    /// Its top row.
+    pub top: usize,
+    /// Its side in pixels.
     pub side: usize,
-    /// From one column or row to the next.
-    pub step: usize,
-    /// The tiles' masks.
-    pub masks: TileMasks,
-    /// So many DELETED segments are added.
-    pub deleted: usize,
+    /// Its M: a tile of a higher one lies above. It decides the pixels too.
+    pub layer: usize,
+    /// Its mask.
+    pub mask: TileMask,
 }
 
-/// A file, and where in it each tile's pixels lie.
+/// A file, and where in it each tile's pixels begin.
 pub struct Mosaic {
     /// The file.
     pub bytes: Vec<u8>,
-    /// Of each tile: left, top, and where its pixels begin.
-    pub tiles: Vec<(usize, usize, usize)>,
+    /// Bytes a pixel.
+    pub pixel: usize,
+    /// The tiles, the bottom one first, each with the place of its pixels.
+    pub tiles: Vec<(Tile, usize)>,
 }
 
-impl Grid {
-    /// Bytes a pixel.
-    pub fn pixel(&self) -> usize {
-        bytes_a_pixel(self.pixel_type)
-    }
+/// So many columns, and as many rows, of tiles of one side, one every `step` pixels.
+pub fn grid(columns: usize, side: usize, step: usize, mask: TileMask) -> Vec<Tile> {
+    (0..columns * columns)
+        .map(|n| Tile {
+            left: n % columns * step,
+            top: n / columns * step,
+            side,
+            layer: n,
+            mask,
+        })
+        .collect()
+}
 
-    /// The plane's side.
-    pub fn plane(&self) -> usize {
-        (self.columns - 1) * self.step + self.side
-    }
-
-    /// The file, its pixels drawn by a fixed seed.
-    pub fn mosaic(&self) -> Mosaic {
+impl Mosaic {
+    /// A file of these tiles, and so many DELETED segments.
+    pub fn new(pixel_type: PixelType, tiles: &[Tile], deleted: usize) -> Mosaic {
         let mut bytes = Vec::new();
         let mut file = vec![0; 512];
         file[0] = 1;
         segment(&mut bytes, Kind::File, &file);
-        let random = &mut Random::new(1);
-        let (metadata, attachment) = self.attached();
         let mut entries = Vec::new();
-        let mut tiles = Vec::new();
-        for n in 0..self.columns * self.columns {
-            let (left, top) = (n % self.columns * self.step, n / self.columns * self.step);
-            let pixels = random.bytes(self.side * self.side * self.pixel());
-            let entry = self.entry(bytes.len(), left, top, n);
-            let mut content = Vec::with_capacity(512 + pixels.len() + attachment.len());
-            content.extend((metadata.len() as i32).to_le_bytes());
-            content.extend((attachment.len() as i32).to_le_bytes());
-            content.extend((pixels.len() as i64).to_le_bytes());
-            content.extend(&entry);
-            content.resize(256, 0);
-            content.extend(&metadata);
-            tiles.push((left, top, bytes.len() + 32 + content.len()));
-            content.extend(&pixels);
-            content.extend(&attachment);
+        let mut places = Vec::new();
+        for tile in tiles {
+            let entry = tile.entry(pixel_type, bytes.len());
+            let (content, pixels) = tile.content(pixel_type, &entry);
+            places.push((*tile, bytes.len() + 32 + pixels));
             segment(&mut bytes, Kind::SubBlock, &content);
             entries.push(entry);
         }
-        for _ in 0..self.deleted {
+        for _ in 0..deleted {
             segment(&mut bytes, Kind::Deleted, &[]);
         }
         let directory = bytes.len() as i64;
@@ -85,19 +81,25 @@ impl Grid {
         content.extend(entries.concat());
         segment(&mut bytes, Kind::Directory, &content);
         bytes[84..92].copy_from_slice(&directory.to_le_bytes());
-        Mosaic { bytes, tiles }
+        Mosaic {
+            bytes,
+            pixel: pixel_type.bytes(),
+            tiles: places,
+        }
     }
+}
 
-    fn entry(&self, position: usize, left: usize, top: usize, number: usize) -> Vec<u8> {
+impl Tile {
+    fn entry(&self, pixel_type: PixelType, position: usize) -> Vec<u8> {
         let mut entry = b"DV".to_vec();
-        entry.extend(self.pixel_type.to_le_bytes());
+        entry.extend(pixel_type.number().to_le_bytes());
         entry.extend((position as i64).to_le_bytes());
         entry.extend([0; 14]);
         entry.extend(3i32.to_le_bytes());
         for (letter, start, size) in [
-            (b'X', left, self.side),
-            (b'Y', top, self.side),
-            (b'M', number, 1),
+            (b'X', self.left, self.side),
+            (b'Y', self.top, self.side),
+            (b'M', self.layer, 1),
         ] {
             entry.extend([letter, 0, 0, 0]);
             entry.extend((start as i32).to_le_bytes());
@@ -107,20 +109,40 @@ impl Grid {
         entry
     }
 
-    /// A tile's metadata and attachment.
-    fn attached(&self) -> (Vec<u8>, Vec<u8>) {
-        let second = match self.masks {
-            TileMasks::None => return (b"<METADATA/>".to_vec(), Vec::new()),
-            TileMasks::AllValid => 0xFF,
-            TileMasks::HalfValid => 0,
-        };
+    /// A sub-block's content, and where in it the pixels begin.
+    fn content(&self, pixel_type: PixelType, entry: &[u8]) -> (Vec<u8>, usize) {
+        let random = &mut Random::new(1 + self.layer as u64);
+        let pixels = random.bytes(self.side * self.side * pixel_type.bytes());
+        let (metadata, attachment) = self.attached(random);
+        let mut content = Vec::with_capacity(512 + pixels.len() + attachment.len());
+        content.extend((metadata.len() as i32).to_le_bytes());
+        content.extend((attachment.len() as i32).to_le_bytes());
+        content.extend((pixels.len() as i64).to_le_bytes());
+        content.extend(entry);
+        content.resize(256, 0);
+        content.extend(&metadata);
+        let place = content.len();
+        content.extend(&pixels);
+        content.extend(&attachment);
+        (content, place)
+    }
+
+    /// Metadata and attachment.
+    fn attached(&self, random: &mut Random) -> (Vec<u8>, Vec<u8>) {
         let stride = self.side.div_ceil(8);
+        let mut valid: Box<dyn FnMut(usize) -> u8> = match self.mask {
+            TileMask::None => return (b"<METADATA/>".to_vec(), Vec::new()),
+            TileMask::AllValid => Box::new(|_| 0xFF),
+            TileMask::HalfValid => Box::new(|n| if n % 2 == 0 { 0xFF } else { 0 }),
+            TileMask::Alternating => Box::new(|_| 0xAA),
+            TileMask::Random => Box::new(|_| random.word() as u8),
+        };
         let mut payload = Vec::new();
         for number in [self.side as i32, self.side as i32, 0, stride as i32] {
             payload.extend(number.to_le_bytes());
         }
         for _ in 0..self.side {
-            payload.extend((0..stride).map(|n| if n % 2 == 0 { 0xFF } else { second }));
+            payload.extend((0..stride).map(&mut valid));
         }
         let mut chunk = MASK_GUID.to_vec();
         chunk.extend((payload.len() as i32).to_le_bytes());

@@ -1,28 +1,28 @@
-//! The shortest of interleaved repetitions.
+//! The least of interleaved repetitions.
 
 use std::time::{Duration, Instant};
 
-/// Runs each of the two so many times in turn; answers the shortest time of each.
-pub fn both(times: usize, mut one: impl FnMut(), mut other: impl FnMut()) -> [Duration; 2] {
-    let mut least = [Duration::MAX; 2];
+/// What is timed: it works on the state that the sides share and answers how long it took.
+pub type Side<'a, S> = &'a dyn Fn(&mut S) -> Duration;
+
+/// Runs the sides in turn, so many times after a first round that only touches what they use. Answers the least time
+/// of each.
+pub fn least<S, const N: usize>(times: usize, state: &mut S, sides: [Side<S>; N]) -> [Duration; N] {
+    let mut least = [Duration::MAX; N];
+    for side in sides {
+        side(state);
+    }
     for _ in 0..times {
-        least[0] = least[0].min(time(&mut one));
-        least[1] = least[1].min(time(&mut other));
+        for (side, least) in sides.iter().zip(&mut least) {
+            *least = side(state).min(*least);
+        }
     }
     least
 }
 
-fn time(work: &mut impl FnMut()) -> Duration {
+/// How long the work takes.
+pub fn time(work: impl FnOnce()) -> Duration {
     let start = Instant::now();
     work();
     start.elapsed()
-}
-
-/// A row of the table: milliseconds of each, and the first as a multiple of the second.
-pub fn row(measure: &str, [ours, theirs]: [Duration; 2]) -> String {
-    let (ours, theirs) = (ours.as_secs_f64() * 1e3, theirs.as_secs_f64() * 1e3);
-    format!(
-        "| {measure} | {ours:.3} | {theirs:.3} | {:.2} |",
-        ours / theirs
-    )
 }

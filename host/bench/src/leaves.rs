@@ -1,0 +1,57 @@
+//! Judging alone, against the reference; equal ranges alone, against memcmp.
+
+use crate::mosaic::{grid, Mosaic, TileMask};
+use crate::timing::{least, time};
+use czi::PixelType;
+use std::hint::black_box;
+use std::time::Duration;
+
+/// Judges 4,096 tiles of 16 x 16 in a file of 8,192 segments, the library and the reference.
+pub fn judge(mask: TileMask, times: usize) -> [Duration; 2] {
+    let file = Mosaic::new(PixelType::Gray8, &grid(64, 16, 16, mask), 4094).bytes;
+    let library = |_: &mut ()| time(|| czi::judge(black_box(&file)).expect("an accepted file"));
+    let reference = |_: &mut ()| {
+        time(|| {
+            let accepted = black_box(reference::judge(black_box(&file))).is_ok();
+            assert!(accepted, "an accepted file");
+        })
+    };
+    least(times, &mut (), [&library, &reference])
+}
+
+/// The length of the ranges compared.
+#[cfg(probe)]
+const RANGE: usize = 256;
+/// Each pair of ranges begins at one of so many places.
+#[cfg(probe)]
+const PLACES: usize = 64;
+/// So many comparisons are timed at once.
+#[cfg(probe)]
+pub const COMPARISONS: usize = 1000 * PLACES;
+
+/// Compares equal ranges of 256 bytes in cache, the library and memcmp, which is what `==` calls.
+#[cfg(probe)]
+pub fn equal_range(times: usize) -> [Duration; 2] {
+    let one = [7; RANGE + PLACES];
+    let library = |other: &mut [u8; RANGE + PLACES]| compare(&one, other, crate::probe::same);
+    let native = |other: &mut [u8; RANGE + PLACES]| compare(&one, other, |a, b| a == b);
+    least(times, &mut one.clone(), [&library, &native])
+}
+
+#[cfg(probe)]
+fn compare(
+    one: &[u8; RANGE + PLACES],
+    other: &[u8; RANGE + PLACES],
+    same: impl Fn(&[u8], &[u8]) -> bool,
+) -> Duration {
+    let mut all = true;
+    let took = time(|| {
+        for n in 0..COMPARISONS {
+            let (one, other) = black_box((one, other));
+            let (a, b) = (n % PLACES, n * 5 % PLACES);
+            all &= same(&one[a..a + RANGE], &other[b..b + RANGE]);
+        }
+    });
+    assert!(all, "equal ranges");
+    took
+}
