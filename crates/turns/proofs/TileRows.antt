@@ -16,7 +16,6 @@ use Rattle.plane.specs.Cuts.{Inside}
 use Rattle.plane.proofs.Tests.{by-bool}
 use Rattle.plane.proofs.PaintLaws.{Bytes, paint-length, mark-length}
 use Rattle.plane.proofs.SumLaws.{count-le}
-use Rattle.paint.proofs.Rows.{part-end}
 use Rattle.paint.specs.Row.{validAt, rowGives}
 use Rattle.turns.specs.TileOf.{windowOf, validIn, tileOf}
 use Rattle.turns.specs.Turned.{kindOf, LineOf, StretchRoom, StretchPainted, TurnRoom, Turned, Clipped}
@@ -26,6 +25,10 @@ use Rattle.turns.specs.declared.MaskLine.{MaskLine}
 use Rattle.turns.specs.declared.Clip.{Clip}
 use Rattle.turns.proofs.Turns.{Done, done-none, done-more, done-stretch, done-all}
 use Rattle.turns.proofs.Tile.{valid-line, off-row, off-above, off-below, off-all, here, byte-here}
+
+-- where part i of n parts of b ends
+part-end : (i n b : ℕ) → i < n → i * b + b ≤ n * b
+part-end i n b h = rw (suc-mul i b) at (mul-le-mul-right b h)
 
 pub record Rows (t₀ m₀ : List ℕ) (w a : Rect) (src : List ℕ) (b : ℕ) (k : Mask) (lines : List ℕ) (q : Bool) (n x col stop y : ℕ) (t m : List ℕ) (g : ℕ) : Type 0 where
   pub room : TurnRoom t₀ m₀ w a src b k lines
