@@ -6,16 +6,16 @@
 
 use crate::mosaic::{Mosaic, Tile, TileMask};
 use crate::native;
-use crate::planes::{Planes, SIDE};
-use crate::timing::{least, time};
-use czi::{compose_quick, Masks, PixelType};
+use crate::planes::{Call, Planes, SIDE};
+use crate::timing::{least, time, Rounds};
+use czi::PixelType;
 use std::time::Duration;
 
 /// A loop over the pixels of a tile.
 type Loop = fn(&Mosaic, (Tile, usize), &mut [u8], &mut [u8]);
 
 /// The least times of the lower tile's turn and of the loop.
-pub fn turn(pixel_type: PixelType, upper: TileMask, times: usize) -> [Duration; 2] {
+pub fn turn(pixel_type: PixelType, upper: TileMask, rounds: Rounds) -> [Duration; 2] {
     let each_pixel: Loop = match pixel_type.bytes() {
         1 => native::each_pixel::<1>,
         2 => native::each_pixel::<2>,
@@ -34,9 +34,9 @@ pub fn turn(pixel_type: PixelType, upper: TileMask, times: usize) -> [Duration; 
     let alone = Mosaic::new(pixel_type, &tiles[1..], 0);
     let mut planes = Planes::new(pixel_type);
 
-    planes.compose(compose_quick, &both.bytes, Masks::On);
+    planes.compose(Call::QUICK, &both.bytes);
     let composed = (planes.target.clone(), planes.map.clone());
-    planes.compose(compose_quick, &alone.bytes, Masks::On);
+    planes.compose(Call::QUICK, &alone.bytes);
     let map = planes.map.clone();
     each_pixel(&both, both.tiles[0], &mut planes.target, &mut planes.map);
     assert!(
@@ -45,14 +45,12 @@ pub fn turn(pixel_type: PixelType, upper: TileMask, times: usize) -> [Duration; 
     );
     drop(composed);
 
-    let both_call =
-        |planes: &mut Planes| time(|| planes.compose(compose_quick, &both.bytes, Masks::On));
-    let alone_call =
-        |planes: &mut Planes| time(|| planes.compose(compose_quick, &alone.bytes, Masks::On));
+    let both_call = |planes: &mut Planes| time(|| planes.compose(Call::QUICK, &both.bytes));
+    let alone_call = |planes: &mut Planes| time(|| planes.compose(Call::QUICK, &alone.bytes));
     let looped = |planes: &mut Planes| {
         planes.map.copy_from_slice(&map);
         time(|| each_pixel(&both, both.tiles[0], &mut planes.target, &mut planes.map))
     };
-    let [both, alone, looped] = least(times, &mut planes, [&both_call, &alone_call, &looped]);
+    let [both, alone, looped] = least(rounds, &mut planes, [&both_call, &alone_call, &looped]);
     [both.saturating_sub(alone), looped]
 }

@@ -1,13 +1,13 @@
 //! Judging alone, against the reference; equal ranges alone, against memcmp.
 
 use crate::mosaic::{grid, Mosaic, TileMask};
-use crate::timing::{least, time};
+use crate::timing::{least, time, Rounds};
 use czi::PixelType;
 use std::hint::black_box;
 use std::time::Duration;
 
 /// Judges 4,096 tiles of 16 x 16 in a file of 8,192 segments, the library and the reference.
-pub fn judge(mask: TileMask, times: usize) -> [Duration; 2] {
+pub fn judge(mask: TileMask, rounds: Rounds) -> [Duration; 2] {
     let file = Mosaic::new(PixelType::Gray8, &grid(64, 16, 16, mask), 4094).bytes;
     let library = |_: &mut ()| time(|| czi::judge(black_box(&file)).expect("an accepted file"));
     let reference = |_: &mut ()| {
@@ -16,7 +16,7 @@ pub fn judge(mask: TileMask, times: usize) -> [Duration; 2] {
             assert!(accepted, "an accepted file");
         })
     };
-    least(times, &mut (), [&library, &reference])
+    least(rounds, &mut (), [&library, &reference])
 }
 
 /// The length of the ranges compared.
@@ -31,11 +31,11 @@ pub const COMPARISONS: usize = 1000 * PLACES;
 
 /// Compares equal ranges of 256 bytes in cache, the library and memcmp, which is what `==` calls.
 #[cfg(probe)]
-pub fn equal_range(times: usize) -> [Duration; 2] {
+pub fn equal_range(rounds: Rounds) -> [Duration; 2] {
     let one = [7; RANGE + PLACES];
     let library = |other: &mut [u8; RANGE + PLACES]| compare(&one, other, crate::probe::same);
     let native = |other: &mut [u8; RANGE + PLACES]| compare(&one, other, |a, b| a == b);
-    least(times, &mut one.clone(), [&library, &native])
+    least(rounds, &mut one.clone(), [&library, &native])
 }
 
 #[cfg(probe)]

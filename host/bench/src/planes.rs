@@ -1,48 +1,82 @@
 //! The lent target and map that all sides of a measure share, so that no side has better memory than another.
 
-use czi::{Counted, Masks, PixelType, Question, Refusal, Scene};
+use czi::{compose_plain, compose_quick, Counted, Masks, PixelType, Question, Refusal, Scene};
 
 /// The window's side in pixels.
 pub const SIDE: usize = 4096;
 
-/// A composer.
-pub type Composer = fn(&[u8], &Question, &mut [u8], &mut [u8]) -> Result<Counted, Refusal>;
-
 /// Target and map of the window.
 pub struct Planes {
     pixel_type: PixelType,
-    background: Vec<u8>,
     /// The target.
     pub target: Vec<u8>,
     /// The map.
     pub map: Vec<u8>,
 }
 
+/// What is called.
+#[derive(Clone, Copy)]
+pub struct Call {
+    /// The composer.
+    composer: fn(&[u8], &Question, &mut [u8], &mut [u8]) -> Result<Counted, Refusal>,
+    /// The choice of masks.
+    masks: Masks,
+    /// The background pixel's bytes, as many as a pixel has.
+    background: [u8; 6],
+}
+
+impl Call {
+    /// The quick composer, masks on, on a background whose bytes differ.
+    pub const QUICK: Call = Call {
+        composer: compose_quick,
+        masks: Masks::On,
+        background: [1, 2, 3, 4, 5, 6],
+    };
+    /// The plain composer.
+    pub const PLAIN: Call = Call {
+        composer: compose_plain,
+        ..Call::QUICK
+    };
+    /// The quick composer, masks off.
+    pub const QUICK_OFF: Call = Call {
+        masks: Masks::Off,
+        ..Call::QUICK
+    };
+    /// The plain composer, masks off.
+    pub const PLAIN_OFF: Call = Call {
+        masks: Masks::Off,
+        ..Call::PLAIN
+    };
+    /// The quick composer, masks off, on black.
+    pub const QUICK_BLACK: Call = Call {
+        background: [0; 6],
+        ..Call::QUICK_OFF
+    };
+}
+
 impl Planes {
-    /// For pixels of that type. The bytes of the background pixel differ.
+    /// For pixels of that type.
     pub fn new(pixel_type: PixelType) -> Planes {
-        let pixel = pixel_type.bytes();
         Planes {
             pixel_type,
-            background: (1..=pixel as u8).collect(),
-            target: vec![0; SIDE * SIDE * pixel],
+            target: vec![0; SIDE * SIDE * pixel_type.bytes()],
             map: vec![0; SIDE * SIDE / 8],
         }
     }
 
     /// The whole call: judges the file and composes its window.
-    pub fn compose(&mut self, composer: Composer, file: &[u8], masks: Masks) {
+    pub fn compose(&mut self, call: Call, file: &[u8]) {
         let question = Question {
             starts: &[],
             scene: Scene::AsStarts,
             pixel_type: self.pixel_type,
-            background: &self.background,
+            background: &call.background[..self.pixel_type.bytes()],
             left: 0,
             top: 0,
             width: SIDE as u32,
             height: SIDE as u32,
-            masks,
+            masks: call.masks,
         };
-        composer(file, &question, &mut self.target, &mut self.map).expect("an answer");
+        (call.composer)(file, &question, &mut self.target, &mut self.map).expect("an answer");
     }
 }

@@ -44,7 +44,7 @@ impl Line {
             self.measure.clone(),
             shown(self.library),
             shown(self.against),
-            format!("{ratio:.2}"),
+            format!("{ratio:.3}"),
         ];
         if let Some(at_most) = self.at_most {
             cells.push(format!("{at_most:.2}"));
@@ -121,8 +121,8 @@ mod tests {
     fn text_is_aligned_and_says_what_is_not_reached() {
         let text = "\
 measure                  library     against  ratio  at most
-one / other            12.000 ms   10.000 ms   1.20     1.20  reached
-a longer one / other  121.000 ms  100.000 ms   1.21     1.20  not reached
+one / other            12.000 ms   10.000 ms  1.200     1.20  reached
+a longer one / other  121.000 ms  100.000 ms  1.210     1.20  not reached
 ";
         assert_eq!(table(&lines(), false), text);
     }
@@ -137,6 +137,6 @@ a longer one / other  121.000 ms  100.000 ms   1.21     1.20  not reached
     #[test]
     fn the_time_of_one_call_of_many() {
         let line = Line::new("x", Duration::from_micros(20), Duration::from_micros(10)).per(1000);
-        assert!(table(&[line], false).contains("20.00 ns  10.00 ns   2.00"));
+        assert!(table(&[line], false).contains("20.00 ns  10.00 ns  2.000"));
     }
 }

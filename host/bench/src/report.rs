@@ -1,0 +1,134 @@
+//! Which measures are taken, and their limits.
+
+use crate::mosaic::TileMask;
+use crate::planes::Call;
+use crate::table::Line;
+use crate::timing::Rounds;
+use crate::{bits, leaves, whole};
+use czi::PixelType;
+
+/// The pixel types measured, one for each number of bytes.
+const PIXEL_TYPES: [PixelType; 4] = [
+    PixelType::Gray16,
+    PixelType::Bgr24,
+    PixelType::Bgr48,
+    PixelType::Gray8,
+];
+
+/// The masks whose measure has a limit.
+const LIMITED_MASKS: (TileMask, PixelType) = (TileMask::AllValid, PixelType::Gray16);
+
+/// The lines of both tables.
+pub struct Report {
+    /// The figures to reach.
+    pub limits: Vec<Line>,
+    /// The others.
+    pub others: Vec<Line>,
+}
+
+impl Report {
+    /// Takes the measures: all, or those with a limit.
+    pub fn new(rounds: Rounds, all: bool) -> Report {
+        let mut report = Report {
+            limits: Vec::new(),
+            others: Vec::new(),
+        };
+        report.no_masks(rounds);
+        for mask in [TileMask::AllValid, TileMask::HalfValid] {
+            for of in PIXEL_TYPES {
+                if all || (mask, of) == LIMITED_MASKS {
+                    report.masked(of, mask, rounds);
+                }
+            }
+        }
+        report.map_bits(rounds, all);
+        report.judge(rounds, all);
+        #[cfg(probe)]
+        report.equal_range(rounds);
+        report
+    }
+
+    fn no_masks(&mut self, rounds: Rounds) {
+        let mut plain_lines = Vec::new();
+        for of in PIXEL_TYPES {
+            let calls = [Call::QUICK_OFF, Call::PLAIN_OFF, Call::QUICK_BLACK];
+            let [quick, plain, black, native] = whole::calls(of, TileMask::None, calls, rounds);
+            let (quick_limit, plain_limit) = match of.bytes() {
+                1 => (1.35, 1.45),
+                _ => (1.20, 1.35),
+            };
+            let line = |call: &str, library| {
+                Line::new(format!("{call}, {} / native", bytes(of)), library, native)
+            };
+            self.limits
+                .push(line("whole quick call", quick).at_most(quick_limit));
+            plain_lines.push(line("whole plain call", plain).at_most(plain_limit));
+            self.others.push(line("whole quick call, on black", black));
+        }
+        self.limits.append(&mut plain_lines);
+    }
+
+    fn masked(&mut self, of: PixelType, mask: TileMask, rounds: Rounds) {
+        let calls = [Call::QUICK, Call::PLAIN, Call::QUICK_OFF];
+        let [quick, plain, off, native] = whole::calls(of, mask, calls, rounds);
+        let valid = match mask {
+            TileMask::AllValid => "all valid",
+            _ => "half valid",
+        };
+        let bytes = bytes(of);
+        let measure = format!("masks on, {valid} / masks off, quick, {bytes}");
+        let line = Line::new(measure, quick, off);
+        if (mask, of) == LIMITED_MASKS {
+            self.limits.push(line.at_most(1.4));
+        } else {
+            self.others.push(line);
+        }
+        for (call, library) in [("whole quick call", quick), ("whole plain call", plain)] {
+            let measure = format!("{call}, masks on, {valid}, {bytes} / native");
+            self.others.push(Line::new(measure, library, native));
+        }
+    }
+
+    fn map_bits(&mut self, rounds: Rounds, all: bool) {
+        for of in [PixelType::Gray8, PixelType::Gray16] {
+            let line = |map: &str, upper| {
+                let [turn, each_pixel] = bits::turn(of, upper, rounds);
+                let measure = format!("{map} map bits, {} / per-pixel loop", bytes(of));
+                Line::new(measure, turn, each_pixel)
+            };
+            self.limits
+                .push(line("random", TileMask::Random).at_most(3.5));
+            if all {
+                self.others.push(line("alternating", TileMask::Alternating));
+            }
+        }
+    }
+
+    fn judge(&mut self, rounds: Rounds, all: bool) {
+        let line = |attachments: &str, mask| {
+            let [library, reference] = leaves::judge(mask, rounds);
+            let measure = format!("judge of 4,096 tiles, {attachments} / reference");
+            Line::new(measure, library, reference)
+        };
+        self.limits
+            .push(line("no attachments", TileMask::None).at_most(1.5));
+        if all {
+            self.others
+                .push(line("each with a mask", TileMask::AllValid));
+        }
+    }
+
+    #[cfg(probe)]
+    fn equal_range(&mut self, rounds: Rounds) {
+        let [library, native] = leaves::equal_range(rounds);
+        let line = Line::new("256-byte equal range / memcmp", library, native);
+        self.limits.push(line.per(leaves::COMPARISONS).at_most(1.6));
+    }
+}
+
+fn bytes(of: PixelType) -> String {
+    match of.bytes() {
+        1 => "1 byte".into(),
+        bytes => format!("{bytes} bytes"),
+    }
+}
