@@ -5,6 +5,8 @@ use czi::{compose_plain, compose_quick, Counted, Masks, PixelType, Question, Ref
 /// The window's side in pixels.
 pub const SIDE: usize = 4096;
 
+type Composer = fn(&[u8], &Question, &mut [u8], &mut [u8]) -> Result<Counted, Refusal>;
+
 /// Target and map of the window.
 pub struct Planes {
     pixel_type: PixelType,
@@ -18,7 +20,7 @@ pub struct Planes {
 #[derive(Clone, Copy)]
 pub struct Call {
     /// The composer.
-    composer: fn(&[u8], &Question, &mut [u8], &mut [u8]) -> Result<Counted, Refusal>,
+    composer: Composer,
     /// The choice of masks.
     masks: Masks,
     /// The background pixel's bytes, as many as a pixel has.
