@@ -1,6 +1,7 @@
 //! Judging alone, against the reference; equal ranges alone, against memcmp.
 
 use crate::mosaic::{grid, Mosaic, TileMask};
+use crate::probe;
 use crate::timing::{least, time, Rounds};
 use czi::PixelType;
 use std::hint::black_box;
@@ -20,25 +21,20 @@ pub fn judge(mask: TileMask, rounds: Rounds) -> [Duration; 2] {
 }
 
 /// The length of the ranges compared.
-#[cfg(probe)]
 const RANGE: usize = 256;
 /// Each pair of ranges begins at one of so many places.
-#[cfg(probe)]
 const PLACES: usize = 64;
 /// So many comparisons are timed at once.
-#[cfg(probe)]
 pub const COMPARISONS: usize = 1000 * PLACES;
 
 /// Compares equal ranges of 256 bytes in cache, the library and memcmp, which is what `==` calls.
-#[cfg(probe)]
 pub fn equal_range(rounds: Rounds) -> [Duration; 2] {
     let one = [7; RANGE + PLACES];
-    let library = |other: &mut [u8; RANGE + PLACES]| compare(&one, other, crate::probe::same);
+    let library = |other: &mut [u8; RANGE + PLACES]| compare(&one, other, probe::same);
     let native = |other: &mut [u8; RANGE + PLACES]| compare(&one, other, |a, b| a == b);
     least(rounds, &mut one.clone(), [&library, &native])
 }
 
-#[cfg(probe)]
 fn compare(
     one: &[u8; RANGE + PLACES],
     other: &[u8; RANGE + PLACES],

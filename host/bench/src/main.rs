@@ -8,7 +8,6 @@ mod leaves;
 mod mosaic;
 mod native;
 mod planes;
-#[cfg(probe)]
 #[allow(unsafe_code)]
 mod probe;
 mod report;
@@ -52,7 +51,7 @@ fn main() {
     );
     let report = Report::new(options.rounds, !options.limits);
     println!("{}", table(&report.limits, options.markdown));
-    if cfg!(not(probe)) {
+    if !probe::LINKED {
         println!("256-byte equal range / memcmp: not measured, libprobe.a was not there (rt staticlib probe).\n");
     }
     if !options.limits {

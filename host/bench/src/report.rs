@@ -4,7 +4,7 @@ use crate::mosaic::TileMask;
 use crate::planes::Call;
 use crate::table::Line;
 use crate::timing::Rounds;
-use crate::{bits, leaves, whole};
+use crate::{bits, leaves, probe, whole};
 use czi::PixelType;
 
 /// The pixel types measured, one for each number of bytes.
@@ -43,8 +43,9 @@ impl Report {
         }
         report.map_bits(rounds, all);
         report.judge(rounds, all);
-        #[cfg(probe)]
-        report.equal_range(rounds);
+        if probe::LINKED {
+            report.equal_range(rounds);
+        }
         report
     }
 
@@ -118,7 +119,6 @@ impl Report {
         }
     }
 
-    #[cfg(probe)]
     fn equal_range(&mut self, rounds: Rounds) {
         let [library, native] = leaves::equal_range(rounds);
         let line = Line::new("256-byte equal range / memcmp", library, native);
