@@ -26,12 +26,12 @@ pub period-sum : (f : ℕ → ℕ) (k w : ℕ) → Period f k → Period f w →
 period-sum f k w p q i = ap f (add-assoc k w i) ∙ p (w + i) ∙ q i
 
 -- the next step's width
-pub wider-bounds : (w r : ℕ) → r ≡ cond (leb w 2048) (w + w) w → w ≤ 4096 → (w ≤ r) × (r ≤ w + w) × (r ≤ 4096)
+pub wider-bounds : (w r : ℕ) → r ≡ cond (leb w 6144) (w + w) w → w ≤ 12288 → (w ≤ r) × (r ≤ w + w) × (r ≤ 12288)
 wider-bounds w r e h =
-    rw e (cond-case (λ x. (w ≤ x) × (x ≤ w + w) × (x ≤ 4096)) (leb w 2048) (λ l. (omega arith, omega arith, omega (arith, leb-true w 2048 l))) (λ l. (omega arith, omega arith, h)))
+    rw e (cond-case (λ x. (w ≤ x) × (x ≤ w + w) × (x ≤ 12288)) (leb w 6144) (λ l. (omega arith, omega arith, omega (arith, leb-true w 6144 l))) (λ l. (omega arith, omega arith, h)))
 
-pub period-wider : (f : ℕ → ℕ) (w r : ℕ) → r ≡ cond (leb w 2048) (w + w) w → Period f w → Period f r
-period-wider f w r e p = rw e (cond-case (Period f) (leb w 2048) (λ l. period-sum f w w p p) (λ l. p))
+pub period-wider : (f : ℕ → ℕ) (w r : ℕ) → r ≡ cond (leb w 6144) (w + w) w → Period f w → Period f r
+period-wider f w r e p = rw e (cond-case (Period f) (leb w 6144) (λ l. period-sum f w w p p) (λ l. p))
 
 pub period-bytes : (t : List ℕ) (b : ℕ) → Period (λ i. getD t (i % b) 0) b
 period-bytes t b i = ap (λ (j : ℕ). getD t j 0) (add-mod-left b i)

@@ -35,18 +35,18 @@ fn uniform(bg: &[u8]) -> bool
     true
 }
 
-// The width of the next step: twice this one, while that is at most 4096 bytes.
+// The width of the next step: twice this one, while that is at most 12288 bytes.
 fn wider(w: usize) -> usize
-    requires { ⌜ w ≤ 4096 ⌝ }
-    ensures { λ r. ⌜ r ≡ cond (leb w 2048) (w + w) w ⌝ }
+    requires { ⌜ w ≤ 12288 ⌝ }
+    ensures { λ r. ⌜ r ≡ cond (leb w 6144) (w + w) w ⌝ }
 {
-    if w <= 2048 {
+    if w <= 6144 {
         return w + w;
     }
     w
 }
 
-// The first b bytes are repeated up to number end: the bytes from 0 on are copied on, twice as many each time, up to 4096.
+// The first b bytes are repeated up to number end: the bytes from 0 on are copied on, twice as many each time, up to 12288.
 fn repeat(dst: &mut [u8], b: usize, end: usize)
     requires { ⌜ (1 ≤ b) × (b ≤ 4096) × (b ≤ end) × (end ≤ length (now dst)) ⌝ }
     ensures { λ _. ⌜ now (dst .exit) ≡ front (λ i. getD (now (dst .entry)) (i % b) 0) end (now (dst .entry)) ⌝ }

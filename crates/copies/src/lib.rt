@@ -28,13 +28,13 @@ fn shift(dst: &mut [u8], src: &[u8], p: usize, q: usize, n: usize)
     }
 }
 
-// Copies at most 4096 bytes through a block of its own. No other memory can be the block's, so the compiler makes one memmove of the two
+// Copies at most 12288 bytes through a block of its own. No other memory can be the block's, so the compiler makes one memmove of the two
 // loops and leaves the block out; of a loop from slice to slice it makes none.
 fn move_block(dst: &mut [u8], src: &[u8], a: usize, e: usize)
-    requires { ⌜ (a ≤ e) × (e ≤ length (now dst)) × (e ≤ length (now src)) × (e ≤ a + 4096) ⌝ }
+    requires { ⌜ (a ≤ e) × (e ≤ length (now dst)) × (e ≤ length (now src)) × (e ≤ a + 12288) ⌝ }
     ensures { λ _. ⌜ now (dst .exit) ≡ copied (now (dst .entry)) (now (src .entry)) a e ⌝ }
 {
-    let mut block = [0u8; 4096];
+    let mut block = [0u8; 12288];
     let n = e - a;
     shift(&mut block, src, 0, a, n);
     shift(dst, &block, a, 0, n);
@@ -42,10 +42,10 @@ fn move_block(dst: &mut [u8], src: &[u8], a: usize, e: usize)
 
 // Copies n bytes of the slice, from number q on, to number p on, in the same way.
 pub fn copy_within(dst: &mut [u8], p: usize, q: usize, n: usize)
-    requires { ⌜ (p + n ≤ length (now dst)) × (q + n ≤ length (now dst)) × (n ≤ 4096) ⌝ }
+    requires { ⌜ (p + n ≤ length (now dst)) × (q + n ≤ length (now dst)) × (n ≤ 12288) ⌝ }
     ensures { λ _. ⌜ now (dst .exit) ≡ moved (now (dst .entry)) (now (dst .entry)) p q n ⌝ }
 {
-    let mut block = [0u8; 4096];
+    let mut block = [0u8; 12288];
     shift(&mut block, dst, 0, q, n);
     shift(dst, &block, p, 0, n);
 }
@@ -56,8 +56,8 @@ pub fn copy_range(dst: &mut [u8], src: &[u8], a: usize, e: usize)
     ensures { λ _. ⌜ now (dst .exit) ≡ copied (now (dst .entry)) (now (src .entry)) a e ⌝ }
 {
     let mut k = a;
-    while 4096 < e - k {
-        let next = k + 4096;
+    while 12288 < e - k {
+        let next = k + 12288;
         move_block(dst, src, k, next);
         k = next;
     }

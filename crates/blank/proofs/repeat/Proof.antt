@@ -13,7 +13,7 @@ use Rattle.blank.proofs.repeat.Tie as tie
 -- the first k bytes of t are repeated in r; k and the next step's width w are periods of them
 record Repeating (t : List ℕ) (b end : ℕ) (r : List ℕ) (w k : ℕ) : Type 0 where
   some : 1 ≤ w
-  most : w ≤ 4096
+  most : w ≤ 12288
   known : w ≤ k
   room : k ≤ end
   step : Period (λ i. getD t (i % b) 0) w

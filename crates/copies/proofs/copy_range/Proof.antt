@@ -38,8 +38,8 @@ loop-again c =
     let a = m .before .before .before .before .before .before .args in (
       omega arith,
       omega arith,
-      m .move-block .ensures ∙ ap (λ (d : List ℕ). copied d (a .src .now) (v .k) (v .k + 4096)) (v .inv .2)
-          ∙ copied-on (a .dst .now) (a .src .now) (a .a) (v .k) (v .k + 4096) (v .inv .0) (omega arith),
+      m .move-block .ensures ∙ ap (λ (d : List ℕ). copied d (a .src .now) (v .k) (v .k + 12288)) (v .inv .2)
+          ∙ copied-on (a .dst .now) (a .src .now) (a .a) (v .k) (v .k + 12288) (v .inv .0) (omega arith),
       search needs,
     )
 
