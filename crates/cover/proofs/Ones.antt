@@ -11,7 +11,7 @@ use Rattle.plane.specs.Sums.{one, sum, count}
 use Rattle.plane.specs.Paint.{bitIn, bit, ones}
 use Rattle.plane.proofs.SumLaws.{sum-ext, sum-add, count-le}
 use Rattle.plane.proofs.BitLaws.{digit}
-use Rattle.plane.proofs.PaintLaws.{cell}
+use Rattle.plane.proofs.PaintLaws.{Bytes, cell}
 
 no-ones : Count.ones 0 ≡ 0
 unfolding Count.ones
@@ -38,13 +38,17 @@ byte-ones x h = high-ones x h 8 (omega arith) ∙ ap Count.ones (div-one x)
 pub ones-more : (m : List ℕ) (k r : ℕ) → r ≤ 8 → ones (8 * k + r) m ≡ ones (8 * k) m + count r (bitIn (getD m k 0))
 ones-more m k r l = sum-add (8 * k) r _ ∙ ap (λ (z : ℕ). ones (8 * k) m + z) (sum-ext r _ _ (λ i h. ap one (sym (cell k i (omega arith) m))))
 
-pub next-byte : (m : List ℕ) (k s : ℕ) → s ≡ ones (8 * k) m → getD m k 0 < 256 → s + Count.ones (getD m k 0) ≡ ones (8 * (k + 1)) m
-next-byte m k s e h =
-    ap₂ (λ (y z : ℕ). y + z) e (sym (byte-ones (getD m k 0) h)) ∙ sym (ones-more m k 8 (omega arith)) ∙ ap (λ (n : ℕ). ones n m) (omega arith)
+-- byte k, up to bit number n
+pub next-byte : (m : List ℕ) → Bytes m → (k n : ℕ) → n ≡ 8 * (k + 1) → ones (8 * k) m + Count.ones (getD m k 0) ≡ ones n m
+next-byte m h k n e =
+    ap (λ (z : ℕ). ones (8 * k) m + z) (sym (byte-ones (getD m k 0) (h k))) ∙ sym (ones-more m k 8 (omega arith)) ∙ ap (λ (z : ℕ). ones z m) (omega arith)
 
-pub last-bits : (m : List ℕ) (n s : ℕ) → s ≡ ones (8 * (n / 8)) m → getD m (n / 8) 0 < 256 → s + Count.ones (getD m (n / 8) 0 / 2 ^ (8 - n % 8)) ≡ ones n m
-last-bits m n s e h =
-    ap₂ (λ (y z : ℕ). y + z) e (sym (high-ones (getD m (n / 8) 0) h (n % 8) (omega arith))) ∙ sym (ones-more m (n / 8) (n % 8) (omega arith)) ∙ ap (λ (n : ℕ). ones n m) (omega arith)
+-- the high bits of the last byte, where n bits end within it
+pub last-bits : (m : List ℕ) → Bytes m → (n : ℕ) → ones (8 * (n / 8)) m + Count.ones (getD m (n / 8) 0 / 2 ^ (8 - n % 8)) ≡ ones n m
+last-bits m h n =
+    ap (λ (z : ℕ). ones (8 * (n / 8)) m + z) (sym (high-ones (getD m (n / 8) 0) (h (n / 8)) (n % 8) (omega arith)))
+    ∙ sym (ones-more m (n / 8) (n % 8) (omega arith))
+    ∙ ap (λ (z : ℕ). ones z m) (omega arith)
 
 pub ones-bound : (n : ℕ) (m : List ℕ) → ones n m ≤ n
 ones-bound n m = count-le n (bit m)
