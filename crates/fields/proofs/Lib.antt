@@ -1,3 +1,4 @@
 pub mod Equal
 pub mod Products
 pub mod Signed
+pub mod Words

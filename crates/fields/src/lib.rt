@@ -55,6 +55,20 @@ pub fn same_at(s: &[u8], p: u64, name: &[u8]) -> bool
     off == 0
 }
 
+// Whether the 16 bytes of name stand at p: they are compared as two words.
+pub fn same_name(s: &[u8], p: u64, name: &[u8]) -> bool
+    requires { ⌜ (p + 16 ≤ length (now s)) × (length (now name) ≡ 16) ⌝ }
+    ensures { λ r. ⌜ r ≡ sameAt (now (s .entry)) p (now (name .entry)) ⌝ }
+{
+    if u64_at(s, p) != u64_at(name, 0) {
+        return false;
+    }
+    if u64_at(s, p + 8) != u64_at(name, 8) {
+        return false;
+    }
+    true
+}
+
 // Whether the n bytes at a of s are those at b of t. No byte ends the loop early here either.
 pub fn same_range(n: u64, s: &[u8], a: u64, t: &[u8], b: u64) -> bool
     requires { ⌜ (a + n ≤ length (now s)) × (b + n ≤ length (now t)) ⌝ }

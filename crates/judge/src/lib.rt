@@ -18,7 +18,7 @@ ghost use Rattle.judge.specs.Located.{Located};
 // Whether position q names no walked segment of that name.
 fn names_none(s: &[u8], table: &[u64; 8192], count: usize, q: u64, name: &[u8]) -> bool
     requires { ⌜ Filled (now s) (now table) count ⌝ }
-    requires { ⌜ length (now name) ≤ 32 ⌝ }
+    requires { ⌜ length (now name) ≡ 16 ⌝ }
     ensures { λ r. ⌜ r ≡ namesNone (now (s .entry)) q (now (name .entry)) ⌝ }
 {
     !segments::walked_as(s, table, count, q, name)
@@ -27,7 +27,7 @@ fn names_none(s: &[u8], table: &[u64; 8192], count: usize, q: u64, name: &[u8]) 
 // The same, where 0 means none.
 fn names_none_but_0(s: &[u8], table: &[u64; 8192], count: usize, q: u64, name: &[u8]) -> bool
     requires { ⌜ Filled (now s) (now table) count ⌝ }
-    requires { ⌜ length (now name) ≤ 32 ⌝ }
+    requires { ⌜ length (now name) ≡ 16 ⌝ }
     ensures { λ r. ⌜ r ≡ namesNoneBut0 (now (s .entry)) q (now (name .entry)) ⌝ }
 {
     if q == 0 {

@@ -8,7 +8,7 @@ ghost use Rattle.format.specs.Checks.{first};
 ghost use Rattle.format.specs.Segments.{allocatedSize, usedSize, room, lengthBad, nameBad, allocatedBad, usedBad, endBad, sizesBad, roleBad, segmentRows, walkRows, walkedFrom, walked, segmentsRows, walkedAs};
 ghost use Rattle.format.proofs.SegmentLaws.{Rising};
 ghost use Rattle.segments.specs.Walk.{Answered, Filled, Judged, numberIn, numberAs};
-use fields::same_at;
+use fields::same_name;
 use fields::u64_at;
 use format::Verdict;
 
@@ -70,7 +70,7 @@ fn is_file(s: &[u8], p: u64) -> bool
     requires { ⌜ p + 32 ≤ length (now s) ⌝ }
     ensures { λ r. ⌜ r ≡ sameAt (now (s .entry)) p nameFile ⌝ }
 {
-    same_at(s, p, b"ZISRAWFILE\0\0\0\0\0\0")
+    same_name(s, p, b"ZISRAWFILE\0\0\0\0\0\0")
 }
 
 // Whether the name at p is that of a sub-block directory.
@@ -78,7 +78,7 @@ fn is_directory(s: &[u8], p: u64) -> bool
     requires { ⌜ p + 32 ≤ length (now s) ⌝ }
     ensures { λ r. ⌜ r ≡ sameAt (now (s .entry)) p nameDirectory ⌝ }
 {
-    same_at(s, p, b"ZISRAWDIRECTORY\0")
+    same_name(s, p, b"ZISRAWDIRECTORY\0")
 }
 
 // Whether the name at p is that of a sub-block.
@@ -86,7 +86,7 @@ fn is_sub_block(s: &[u8], p: u64) -> bool
     requires { ⌜ p + 32 ≤ length (now s) ⌝ }
     ensures { λ r. ⌜ r ≡ sameAt (now (s .entry)) p nameSubBlock ⌝ }
 {
-    same_at(s, p, b"ZISRAWSUBBLOCK\0\0")
+    same_name(s, p, b"ZISRAWSUBBLOCK\0\0")
 }
 
 // Whether the name at p is that of a metadata segment.
@@ -94,7 +94,7 @@ fn is_metadata(s: &[u8], p: u64) -> bool
     requires { ⌜ p + 32 ≤ length (now s) ⌝ }
     ensures { λ r. ⌜ r ≡ sameAt (now (s .entry)) p nameMetadata ⌝ }
 {
-    same_at(s, p, b"ZISRAWMETADATA\0\0")
+    same_name(s, p, b"ZISRAWMETADATA\0\0")
 }
 
 // Whether the name at p is that of an attachment.
@@ -102,7 +102,7 @@ fn is_attachment(s: &[u8], p: u64) -> bool
     requires { ⌜ p + 32 ≤ length (now s) ⌝ }
     ensures { λ r. ⌜ r ≡ sameAt (now (s .entry)) p nameAttachment ⌝ }
 {
-    same_at(s, p, b"ZISRAWATTACH\0\0\0\0")
+    same_name(s, p, b"ZISRAWATTACH\0\0\0\0")
 }
 
 // Whether the name at p is that of an attachment directory.
@@ -110,7 +110,7 @@ fn is_attachment_directory(s: &[u8], p: u64) -> bool
     requires { ⌜ p + 32 ≤ length (now s) ⌝ }
     ensures { λ r. ⌜ r ≡ sameAt (now (s .entry)) p nameAttachmentDirectory ⌝ }
 {
-    same_at(s, p, b"ZISRAWATTDIR\0\0\0\0")
+    same_name(s, p, b"ZISRAWATTDIR\0\0\0\0")
 }
 
 // Whether the name at p is that of a deleted segment.
@@ -118,7 +118,7 @@ fn is_deleted(s: &[u8], p: u64) -> bool
     requires { ⌜ p + 32 ≤ length (now s) ⌝ }
     ensures { λ r. ⌜ r ≡ sameAt (now (s .entry)) p nameDeleted ⌝ }
 {
-    same_at(s, p, b"DELETED\0\0\0\0\0\0\0\0\0")
+    same_name(s, p, b"DELETED\0\0\0\0\0\0\0\0\0")
 }
 
 // Refusal 2: unknown name.
@@ -342,14 +342,14 @@ fn number_in(table: &[u64; 8192], count: usize, q: u64) -> usize
 // The number of the walked segment that q names, of the kind that has that name, by the table that a walk filled; count where there is none.
 pub fn number_as(s: &[u8], table: &[u64; 8192], count: usize, q: u64, name: &[u8]) -> usize
     requires { ⌜ Filled (now s) (now table) count ⌝ }
-    requires { ⌜ length (now name) ≤ 32 ⌝ }
+    requires { ⌜ length (now name) ≡ 16 ⌝ }
     ensures { λ r. ⌜ r ≡ numberAs (now (s .entry)) q (now (name .entry)) ⌝ }
 {
     let k = number_in(table, count, q);
     if k == count {
         return count;
     }
-    if same_at(s, q, name) {
+    if same_name(s, q, name) {
         return k;
     }
     count
@@ -358,7 +358,7 @@ pub fn number_as(s: &[u8], table: &[u64; 8192], count: usize, q: u64, name: &[u8
 // Whether q names a walked segment of the kind that has that name.
 pub fn walked_as(s: &[u8], table: &[u64; 8192], count: usize, q: u64, name: &[u8]) -> bool
     requires { ⌜ Filled (now s) (now table) count ⌝ }
-    requires { ⌜ length (now name) ≤ 32 ⌝ }
+    requires { ⌜ length (now name) ≡ 16 ⌝ }
     ensures { λ r. ⌜ r ≡ walkedAs (now (s .entry)) q (now (name .entry)) ⌝ }
 {
     number_as(s, table, count, q, name) < count

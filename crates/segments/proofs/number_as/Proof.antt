@@ -12,19 +12,19 @@ number-in-requires c κs = let f = c .before .before .pre .0 in ((f .few, f .siz
 returns : tie.Need-returns
 returns c = not-found _ _ _ _ _ (c .before .before .before .before .pre .0) _ (c .before .number-in .ensures) (c .if1 .taken)
 
-same-at-requires : tie.Need-same-at-requires
-same-at-requires c κs =
+same-name-requires : tie.Need-same-name-requires
+same-name-requires c κs =
     let a = c .before .before .before .before .args in
     let s = walked-sized _ _ (found _ _ _ _ (now (a .name)) (c .before .before .before .before .pre .0) _ (c .before .number-in .ensures) (c .if1 .left)) in
     let n = next-is (now (a .s)) (a .q) in
     omega (arith, s .within)
 
 returns-2 : tie.Need-returns-2
-returns-2 c = of-kind _ _ _ _ _ (c .before .before .before .before .before .before .pre .0) _ (c .before .before .before .number-in .ensures) (c .before .before .if1 .left) (sym (c .before .same-at .ensures) ∙ c .if2 .taken)
+returns-2 c = of-kind _ _ _ _ _ (c .before .before .before .before .before .before .pre .0) _ (c .before .before .before .number-in .ensures) (c .before .before .if1 .left) (sym (c .before .same-name .ensures) ∙ c .if2 .taken)
 
 returns-3 : tie.Need-returns-3
-returns-3 c = of-other _ _ _ _ _ (c .before .before .before .before .before .before .pre .0) _ (c .before .before .before .number-in .ensures) (sym (c .before .same-at .ensures) ∙ c .if2 .left)
+returns-3 c = of-other _ _ _ _ _ (c .before .before .before .before .before .before .pre .0) _ (c .before .before .before .number-in .ensures) (sym (c .before .same-name .ensures) ∙ c .if2 .left)
 
 pub number-as-spec : {M : Type 1} → statement M
 number-as-spec =
-    tie.close (tie.spec number-in-requires returns same-at-requires returns-2 returns-3)
+    tie.close (tie.spec number-in-requires returns same-name-requires returns-2 returns-3)
