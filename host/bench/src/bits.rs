@@ -19,8 +19,7 @@ pub fn turn(pixel_type: PixelType, upper: TileMask, rounds: Rounds) -> [Duration
     let each_pixel: Loop = match pixel_type.bytes() {
         1 => native::each_pixel::<1>,
         2 => native::each_pixel::<2>,
-        3 => native::each_pixel::<3>,
-        _ => native::each_pixel::<6>,
+        bytes => unreachable!("{bytes} bytes a pixel"),
     };
     let tile = |layer, mask| Tile {
         left: 0,

@@ -1,6 +1,6 @@
 //! Judging alone, against the reference; equal ranges alone, against memcmp.
 
-use crate::mosaic::{grid, Mosaic, TileMask};
+use crate::mosaic::{grid, named_often, Mosaic, TileMask};
 use crate::probe;
 use crate::timing::{least, time, Rounds};
 use czi::PixelType;
@@ -18,6 +18,13 @@ pub fn judge(mask: TileMask, rounds: Rounds) -> [Duration; 2] {
         })
     };
     least(rounds, &mut (), [&library, &reference])
+}
+
+/// Judges a sub-block with 4 MiB of metadata that 4,096 entries name, and the same that one entry names.
+pub fn judge_named_often(rounds: Rounds) -> [Duration; 2] {
+    let (often, once) = (named_often(4096), named_often(1));
+    let judge = |file| move |_: &mut ()| time(|| czi::judge(black_box(file)).expect("accepted"));
+    least(rounds, &mut (), [&judge(&often), &judge(&once)])
 }
 
 /// The length of the ranges compared.

@@ -43,6 +43,9 @@ pub struct Mosaic {
     pub tiles: Vec<(Tile, usize)>,
 }
 
+/// The metadata of a sub-block that is named often.
+const METADATA: usize = 4 << 20;
+
 /// So many columns, and as many rows, of tiles of one side, one every `step` pixels.
 pub fn grid(columns: usize, side: usize, step: usize, mask: TileMask) -> Vec<Tile> {
     (0..columns * columns)
@@ -59,10 +62,7 @@ pub fn grid(columns: usize, side: usize, step: usize, mask: TileMask) -> Vec<Til
 impl Mosaic {
     /// A file of these tiles, and so many DELETED segments.
     pub fn new(pixel_type: PixelType, tiles: &[Tile], deleted: usize) -> Mosaic {
-        let mut bytes = Vec::new();
-        let mut file = vec![0; 512];
-        file[0] = 1;
-        segment(&mut bytes, Kind::File, &file);
+        let mut bytes = file_segment();
         let mut entries = Vec::new();
         let mut places = Vec::new();
         for tile in tiles {
@@ -75,18 +75,24 @@ impl Mosaic {
         for _ in 0..deleted {
             segment(&mut bytes, Kind::Deleted, &[]);
         }
-        let directory = bytes.len() as i64;
-        let mut content = (entries.len() as i32).to_le_bytes().to_vec();
-        content.resize(128, 0);
-        content.extend(entries.concat());
-        segment(&mut bytes, Kind::Directory, &content);
-        bytes[84..92].copy_from_slice(&directory.to_le_bytes());
+        directory(&mut bytes, &entries);
         Mosaic {
             bytes,
             pixel: pixel_type.bytes(),
             tiles: places,
         }
     }
+}
+
+/// A file of one sub-block that so many entries name; it has an attachment and long metadata without the marker.
+pub fn named_often(entries: usize) -> Vec<u8> {
+    let tile = grid(1, 16, 16, TileMask::None)[0];
+    let mut bytes = file_segment();
+    let entry = tile.entry(PixelType::Gray8, bytes.len());
+    let (content, _) = sub_block(&entry, &vec![b' '; METADATA], &[0; 256], &[0; 32]);
+    segment(&mut bytes, Kind::SubBlock, &content);
+    directory(&mut bytes, &vec![entry; entries]);
+    bytes
 }
 
 impl Tile {
@@ -114,17 +120,7 @@ impl Tile {
         let random = &mut Random::new(1 + self.layer as u64);
         let pixels = random.bytes(self.side * self.side * pixel_type.bytes());
         let (metadata, attachment) = self.attached(random);
-        let mut content = Vec::with_capacity(512 + pixels.len() + attachment.len());
-        content.extend((metadata.len() as i32).to_le_bytes());
-        content.extend((attachment.len() as i32).to_le_bytes());
-        content.extend((pixels.len() as i64).to_le_bytes());
-        content.extend(entry);
-        content.resize(256, 0);
-        content.extend(&metadata);
-        let place = content.len();
-        content.extend(&pixels);
-        content.extend(&attachment);
-        (content, place)
+        sub_block(entry, &metadata, &pixels, &attachment)
     }
 
     /// Metadata and attachment.
@@ -149,6 +145,40 @@ impl Tile {
         chunk.extend(payload);
         (MARKER.to_vec(), chunk)
     }
+}
+
+/// A sub-block's content, and where in it the pixels begin.
+fn sub_block(entry: &[u8], metadata: &[u8], pixels: &[u8], attachment: &[u8]) -> (Vec<u8>, usize) {
+    let mut content = Vec::with_capacity(512 + metadata.len() + pixels.len() + attachment.len());
+    content.extend((metadata.len() as i32).to_le_bytes());
+    content.extend((attachment.len() as i32).to_le_bytes());
+    content.extend((pixels.len() as i64).to_le_bytes());
+    content.extend(entry);
+    content.resize(256, 0);
+    content.extend(metadata);
+    let place = content.len();
+    content.extend(pixels);
+    content.extend(attachment);
+    (content, place)
+}
+
+/// A file that has its first segment alone.
+fn file_segment() -> Vec<u8> {
+    let mut content = vec![0; 512];
+    content[0] = 1;
+    let mut bytes = Vec::new();
+    segment(&mut bytes, Kind::File, &content);
+    bytes
+}
+
+/// Adds the directory of these entries, and names it in the first segment.
+fn directory(bytes: &mut Vec<u8>, entries: &[Vec<u8>]) {
+    let position = bytes.len() as i64;
+    let mut content = (entries.len() as i32).to_le_bytes().to_vec();
+    content.resize(128, 0);
+    content.extend(entries.concat());
+    segment(bytes, Kind::Directory, &content);
+    bytes[84..92].copy_from_slice(&position.to_le_bytes());
 }
 
 fn segment(bytes: &mut Vec<u8>, kind: Kind, content: &[u8]) {

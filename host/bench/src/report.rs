@@ -116,6 +116,9 @@ impl Report {
         if all {
             self.others
                 .push(line("each with a mask", TileMask::AllValid));
+            let [often, once] = leaves::judge_named_often(rounds);
+            let measure = "judge of a sub-block that 4,096 entries name / that one names";
+            self.others.push(Line::new(measure, often, once));
         }
     }
 
