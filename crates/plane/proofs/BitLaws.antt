@@ -13,7 +13,7 @@ eqb-one true x e = ap (λ (y : ℕ). eqb y 1) e
 eqb-one false x e = ap (λ (y : ℕ). eqb y 1) e
 
 -- a fact of each number below 8
-each8 : (P : ℕ → Type 0) → P 0 → P 1 → P 2 → P 3 → P 4 → P 5 → P 6 → P 7 → (i : ℕ) → i < 8 → P i
+pub each8 : (P : ℕ → Type 0) → P 0 → P 1 → P 2 → P 3 → P 4 → P 5 → P 6 → P 7 → (i : ℕ) → i < 8 → P i
 each8 P a b c d e f g h zero l = a
 each8 P a b c d e f g h (suc zero) l = b
 each8 P a b c d e f g h (suc (suc zero)) l = c

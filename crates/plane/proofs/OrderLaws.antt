@@ -17,7 +17,7 @@ use Rattle.plane.proofs.RunLaws.{lastByte, firstByte}
 
 -- ---- the same tiles
 
-pub insert-from : {x : Tile} (t : Tile) (ss : List Tile) → List·Memᴰ x (insert t ss) → (x ≡ t) ⊎ List·Memᴰ x ss
+insert-from : {x : Tile} (t : Tile) (ss : List Tile) → List·Memᴰ x (insert t ss) → (x ≡ t) ⊎ List·Memᴰ x ss
 unfolding insert
 insert-from t [] m = List·Memᴰ·cases-cons m
 insert-from {x} t (s ∷ ss) m =
@@ -26,12 +26,12 @@ insert-from {x} t (s ∷ ss) m =
     (λ _ m. ⊎-elim (λ e. inr (List·Memᴰ·head e)) (λ m. ⊎-elim inl (λ m. inr (List·Memᴰ·tail m)) (insert-from t ss m)) (List·Memᴰ·cases-cons m))
     m
 
-pub insert-head : (t : Tile) (ss : List Tile) → List·Memᴰ t (insert t ss)
+insert-head : (t : Tile) (ss : List Tile) → List·Memᴰ t (insert t ss)
 unfolding insert
 insert-head t [] = List·Memᴰ·head refl
 insert-head t (s ∷ ss) = cond-case (λ (l : List Tile). List·Memᴰ t l) (below t s) (λ _. List·Memᴰ·head refl) (λ _. List·Memᴰ·tail (insert-head t ss))
 
-pub insert-tail : {x : Tile} (t : Tile) (ss : List Tile) → List·Memᴰ x ss → List·Memᴰ x (insert t ss)
+insert-tail : {x : Tile} (t : Tile) (ss : List Tile) → List·Memᴰ x ss → List·Memᴰ x (insert t ss)
 unfolding insert
 insert-tail t [] m = absurd (List·Memᴰ·not-nil m)
 insert-tail {x} t (s ∷ ss) m =
@@ -98,7 +98,7 @@ abbrev pub Falling : List Tile → Type 0
 Falling [] = Unit {0}
 Falling (t ∷ ts) = ((s : Tile) → List·Memᴰ s ts → s .rank < t .rank) × Falling ts
 
-pub insert-rising : (t : Tile) (ss : List Tile) → ((s : Tile) → List·Memᴰ s ss → t .rank ≡ s .rank → ⊥) → Rising ss → Rising (insert t ss)
+insert-rising : (t : Tile) (ss : List Tile) → ((s : Tile) → List·Memᴰ s ss → t .rank ≡ s .rank → ⊥) → Rising ss → Rising (insert t ss)
 unfolding insert below
 insert-rising t [] d r = (λ s m. absurd (List·Memᴰ·not-nil m), tt)
 insert-rising t (s ∷ ss) d r =

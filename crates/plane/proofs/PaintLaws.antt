@@ -167,16 +167,7 @@ paint-none n b on px t hb e =
     go k (yes l) = rw (lt-ltb k (n * b) l, e (k / b) (div-lt-iff-lt-mul hb .1 l))
     go k (no l) = rw (le-ltb k (n * b) (omega (arith, lt-of-not-le l)))
 
--- pixels are painted, and bits set, as the test says below n, whatever it says past them
-pub paint-ext : (n b : ℕ) (on on′ : ℕ → Bool) (px : ℕ → ℕ → ℕ) (t : List ℕ) → 1 ≤ b → ((p : ℕ) → p < n → on p ≡ on′ p) → paint n b on px t ≡ paint n b on′ px t
-unfolding paint
-paint-ext n b on on′ px t hb e =
-    tab-ext (length t) _ _ (λ k _. ap (λ (z : Bool). cond z (px (k / b) (k % b)) (getD t k 0)) (go k (decLt k (n * b))))
-  where
-    go : (k : ℕ) → Dec (k < n * b) → (ltb k (n * b) && on (k / b)) ≡ (ltb k (n * b) && on′ (k / b))
-    go k (yes l) = ap (λ (z : Bool). ltb k (n * b) && z) (e (k / b) (div-lt-iff-lt-mul hb .1 l))
-    go k (no l) = rw (le-ltb k (n * b) (omega (arith, lt-of-not-le l)))
-
+-- bits are set as the test says below n, whatever it says past them
 pub mark-ext : (n : ℕ) (on on′ : ℕ → Bool) (m : List ℕ) → ((p : ℕ) → p < n → on p ≡ on′ p) → mark n on m ≡ mark n on′ m
 unfolding mark
 mark-ext n on on′ m e =

@@ -5,7 +5,7 @@ use Prim.Native.Nat.{ℕ, _+_, _*_, _≤_, _<_}
 use native.Mathlib.Nat.{add-zero}
 use native.Mathlib.Omega.{arith}
 use mathlib.Core.List.{List, [], _∷_, _++_, reverse, reverse-cons, append-nil, List·Memᴰ, List·Memᴰ·head, List·Memᴰ·tail, List·Memᴰ·not-nil, List·Memᴰ·cases-cons}
-use mathlib.Core.Bool.{Bool, true, false, cond, not, _&&_, _||_, and-false, true≢false}
+use mathlib.Core.Bool.{Bool, true, false, cond, not, _&&_, _||_, true≢false}
 use lib.ListN.{getD}
 use Rattle.plane.specs.Sums.{one}
 use Rattle.plane.specs.Tiles.{Tile, Window, Ranked, area, colOf, rowOf, givesAt}
@@ -52,11 +52,6 @@ pub turn-apart : (k : Kind) (w : Window) (b : ℕ) (t : Tile) (s : Painting) →
     → turn k w b t s ≡ s
 turn-apart plain w b t s hb h e = turn-nothing plain w b t s hb h e
 turn-apart quick w b t s hb h e = turn-nothing quick w b t s hb h (λ p l. ap (λ (x : Bool). x && not (bit (s .map) p)) (e p l))
-
--- and in the quick composer that of any tile once the window is covered
-pub turn-full : (w : Window) (b : ℕ) (t : Tile) (s : Painting) → 1 ≤ b → MapBytes w (s .map) → ((p : ℕ) → p < area w → bit (s .map) p ≡ true)
-    → turn quick w b t s ≡ s
-turn-full w b t s hb h e = turn-nothing quick w b t s hb h (λ p l. rw (e p l) (and-false (givesAt w t p)))
 
 -- ---- a run
 

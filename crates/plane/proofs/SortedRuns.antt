@@ -5,13 +5,13 @@ use Prim.Native.Nat.{ℕ, suc, _+_, _<_, suc-le-suc}
 use native.Mathlib.Nat.{lt-trans, zero-lt-suc}
 use native.Mathlib.Numerals.{add-one}
 use native.Mathlib.Omega.{arith}
-use mathlib.Core.List.{List, [], _∷_, _++_, reverse, reverse-cons, List·Memᴰ, List·Memᴰ·head, List·Memᴰ·tail, List·Memᴰ·not-nil, List·Memᴰ·cases-cons, List·Memᴰ·append-cases, List·Memᴰ·eq-of-singleton, Memᴰ·append-left, Memᴰ·append-right}
+use mathlib.Core.List.{List, [], _∷_, reverse, reverse-cons, List·Memᴰ, List·Memᴰ·head, List·Memᴰ·tail, List·Memᴰ·not-nil, List·Memᴰ·cases-cons}
 use lib.ListN.{length, getD, take, drop}
 use lib.Seq.{take-suc, drop-cons}
 use Rattle.plane.specs.Tiles.{Tile, Window, Ranked}
-use Rattle.plane.specs.Turns.{Painting, Kind, plain, quick, turn, run, start, insert, bottomFirst, compose, noTile}
+use Rattle.plane.specs.Turns.{Painting, Kind, plain, quick, turn, run, start, bottomFirst, compose, noTile}
 use Rattle.plane.proofs.RunLaws.{run-append}
-use Rattle.plane.proofs.OrderLaws.{Rising, sort-rising, sort-from, sort-to, insert-from, insert-head, insert-tail, insert-rising}
+use Rattle.plane.proofs.OrderLaws.{Rising, sort-rising, sort-from, sort-to}
 
 -- ---- sorted lists
 
@@ -52,27 +52,6 @@ rising-steps (t ∷ u ∷ us) h =
 -- the tiles in a rising list are in the definition's order
 pub sorted : (ts l : List Tile) → Ranked ts → Rising l → ((t : Tile) → List·Memᴰ t l → List·Memᴰ t ts) → ((t : Tile) → List·Memᴰ t ts → List·Memᴰ t l) → l ≡ bottomFirst ts
 sorted ts l d r from to = rising-unique l (bottomFirst ts) r (sort-rising ts d) (λ t m. sort-to ts (from t m)) (λ t m. to t (sort-from ts m))
-
--- one more tile at the end of the list, as an insertion sort takes it
-pub sort-snoc : (ts : List Tile) (t : Tile) → Ranked (ts ++ (t ∷ [])) → bottomFirst (ts ++ (t ∷ [])) ≡ insert t (bottomFirst ts)
-sort-snoc ts t d =
-    sym (sorted (ts ++ (t ∷ [])) (insert t (bottomFirst ts)) d
-    (insert-rising t (bottomFirst ts) (λ s m e. apart ts d s (sort-from ts m) e) (sort-rising ts (front ts d)))
-    (λ s m. ⊎-elim (λ e. Memᴰ·append-right ts (List·Memᴰ·head e)) (λ n. Memᴰ·append-left (t ∷ []) (sort-from ts n)) (insert-from t (bottomFirst ts) m))
-    (λ s m. ⊎-elim (λ n. insert-tail t (bottomFirst ts) (sort-to ts n)) (λ n. last s (List·Memᴰ·eq-of-singleton n)) (List·Memᴰ·append-cases ts m)))
-  where
-    front : (us : List Tile) → Ranked (us ++ (t ∷ [])) → Ranked us
-    front [] d = tt
-    front (u ∷ us) d = (λ s m. d .0 s (Memᴰ·append-left (t ∷ []) m), front us (d .1))
-
-    apart : (us : List Tile) → Ranked (us ++ (t ∷ [])) → (s : Tile) → List·Memᴰ s us → t .rank ≡ s .rank → ⊥
-    apart [] d s m e = List·Memᴰ·not-nil m
-    apart (u ∷ us) d s m e =
-        ⊎-elim (λ (q : s ≡ u). d .0 t (Memᴰ·append-right us (List·Memᴰ·head refl)) (ap (λ (z : Tile). z .rank) (sym q) ∙ sym e))
-        (λ n. apart us (d .1) s n e) (List·Memᴰ·cases-cons m)
-
-    last : (s : Tile) → s ≡ t → List·Memᴰ s (insert t (bottomFirst ts))
-    last s e = subst (λ (z : Tile). List·Memᴰ z (insert t (bottomFirst ts))) (sym e) (insert-head t (bottomFirst ts))
 
 -- ---- runs along them
 
