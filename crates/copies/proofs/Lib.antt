@@ -1,2 +1,3 @@
+-- Laws of copies and of moves.
 pub mod Copies
 pub mod Moves

@@ -48,7 +48,7 @@ moved-past d s p q n k l h = moved-at d s p q n k l ∙ rw (range-past p (p + n)
 -- ---- whole moves
 
 -- a move to the same numbers is a copy
-pub moved-same : (d s : List ℕ) (a e : ℕ) → a ≤ e → moved d s a a (e - a) ≡ copied d s a e
+moved-same : (d s : List ℕ) (a e : ℕ) → a ≤ e → moved d s a a (e - a) ≡ copied d s a e
 moved-same d s a e h =
     ext-getD 0 _ _ (moved-length d s a a (e - a) ∙ sym (copied-length d s a e)) (λ k l. at k (rw (moved-length d s a a (e - a)) at l))
   where
@@ -59,7 +59,7 @@ moved-same d s a e h =
         (λ x. moved-past d s a a (e - a) k l (omega arith) ∙ sym (copied-past d s a e k l x))
 
 -- a move into a block and on from there
-pub moved-through : (d s b : List ℕ) (p q n : ℕ) → n ≤ length b → moved d (moved b s 0 q n) p 0 n ≡ moved d s p q n
+moved-through : (d s b : List ℕ) (p q n : ℕ) → n ≤ length b → moved d (moved b s 0 q n) p 0 n ≡ moved d s p q n
 moved-through d s b p q n h =
     ext-getD 0 _ _ (moved-length d _ p 0 n ∙ sym (moved-length d s p q n)) (λ k l. at k (rw (moved-length d _ p 0 n) at l))
   where

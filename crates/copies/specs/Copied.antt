@@ -13,3 +13,7 @@ copied dst src a e = tab (length dst) (λ k. cond (leb a k && ltb k e) (getD src
 -- the n bytes from number p on replaced by the source's from number q on
 unfoldable pub moved : List ℕ → List ℕ → ℕ → ℕ → ℕ → List ℕ
 moved dst src p q n = tab (length dst) (λ k. cond (leb p k && ltb k (p + n)) (getD src (q + (k - p)) 0) (getD dst k 0))
+
+-- the bytes of a block, through which bytes are moved at most at once
+abbrev pub blockSize : ℕ
+blockSize = 12288

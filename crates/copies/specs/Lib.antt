@@ -1,1 +1,2 @@
+-- What copies do.
 pub mod Copied

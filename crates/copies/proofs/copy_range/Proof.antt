@@ -5,7 +5,7 @@ use native.Mathlib.Omega.{arith}
 use borrow.Author.Needs.{needs}
 use mathlib.Core.List.{List}
 use lib.ListN.{length}
-use Rattle.copies.specs.Copied.{copied}
+use Rattle.copies.specs.Copied.{copied, blockSize}
 use Rattle.copies.proofs.Copies.{copied-none, copied-on}
 use Rattle.copies.proofs.copy_range.Statement.{statement}
 use Rattle.copies.proofs.copy_range.Tie as tie
@@ -38,8 +38,8 @@ loop-again c =
     let a = m .before .before .before .before .before .before .args in (
       omega arith,
       omega arith,
-      m .move-block .ensures ∙ ap (λ (d : List ℕ). copied d (a .src .now) (v .k) (v .k + 12288)) (v .inv .2)
-          ∙ copied-on (a .dst .now) (a .src .now) (a .a) (v .k) (v .k + 12288) (v .inv .0) (omega arith),
+      m .move-block .ensures ∙ ap (λ (d : List ℕ). copied d (a .src .now) (v .k) (v .k + blockSize)) (v .inv .2)
+          ∙ copied-on (a .dst .now) (a .src .now) (a .a) (v .k) (v .k + blockSize) (v .inv .0) (omega arith),
       search needs,
     )
 

@@ -1,5 +1,4 @@
 -- `copies::copy_within` meets its contract.
-use native.Mathlib.Omega.{arith}
 use borrow.Author.Needs.{needs}
 use Rattle.copies.proofs.Moves.{through}
 use Rattle.copies.proofs.copy_within.Statement.{statement}
