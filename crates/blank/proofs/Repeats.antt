@@ -1,6 +1,6 @@
 -- A pixel's bytes repeated: what lies whole pixels back is the same.
 use mathlib.Core.Path.{_≡_, refl, sym, ap, _∙_}
-use Prim.Native.Nat.{ℕ, _+_, _*_, _-_, _%_, _≤_, _<_}
+use Prim.Native.Nat.{ℕ, _+_, _*_, _-_, _/_, _%_, _≤_, _<_}
 use native.Mathlib.Nat.{add-assoc, zero-mul, mul-le-mul-right, one-mul, add-mod-left, mod-lt, mod-eq-of-lt}
 use native.Mathlib.Omega.{arith}
 use mathlib.Core.List.{List}
@@ -10,7 +10,7 @@ use lib.ListN.{length, getD}
 use borrow.Author.Tests.{leb-true}
 use Rattle.plane.specs.Paint.{paint}
 use Rattle.plane.proofs.Tests.{cond-case}
-use Rattle.copies.specs.Copied.{copied, moved}
+use Rattle.copies.specs.Copied.{copied, moved, blockSize}
 use Rattle.copies.proofs.Copies.{by-range, copied-length, copied-in, copied-past}
 use Rattle.copies.proofs.Moves.{moved-length, moved-in, moved-below, moved-past}
 use Rattle.blank.specs.Front.{front, Alike}
@@ -26,12 +26,12 @@ pub period-sum : (f : ℕ → ℕ) (k w : ℕ) → Period f k → Period f w →
 period-sum f k w p q i = ap f (add-assoc k w i) ∙ p (w + i) ∙ q i
 
 -- the next step's width
-pub wider-bounds : (w r : ℕ) → r ≡ cond (leb w 6144) (w + w) w → w ≤ 12288 → (w ≤ r) × (r ≤ w + w) × (r ≤ 12288)
+pub wider-bounds : (w r : ℕ) → r ≡ cond (leb w (blockSize / 2)) (w + w) w → w ≤ blockSize → (w ≤ r) × (r ≤ w + w) × (r ≤ blockSize)
 wider-bounds w r e h =
-    rw e (cond-case (λ x. (w ≤ x) × (x ≤ w + w) × (x ≤ 12288)) (leb w 6144) (λ l. (omega arith, omega arith, omega (arith, leb-true w 6144 l))) (λ l. (omega arith, omega arith, h)))
+    rw e (cond-case (λ x. (w ≤ x) × (x ≤ w + w) × (x ≤ blockSize)) (leb w (blockSize / 2)) (λ l. (omega arith, omega arith, omega (arith, leb-true w (blockSize / 2) l))) (λ l. (omega arith, omega arith, h)))
 
-pub period-wider : (f : ℕ → ℕ) (w r : ℕ) → r ≡ cond (leb w 6144) (w + w) w → Period f w → Period f r
-period-wider f w r e p = rw e (cond-case (Period f) (leb w 6144) (λ l. period-sum f w w p p) (λ l. p))
+pub period-wider : (f : ℕ → ℕ) (w r : ℕ) → r ≡ cond (leb w (blockSize / 2)) (w + w) w → Period f w → Period f r
+period-wider f w r e p = rw e (cond-case (Period f) (leb w (blockSize / 2)) (λ l. period-sum f w w p p) (λ l. p))
 
 pub period-bytes : (t : List ℕ) (b : ℕ) → Period (λ i. getD t (i % b) 0) b
 period-bytes t b i = ap (λ (j : ℕ). getD t j 0) (add-mod-left b i)
@@ -58,6 +58,52 @@ repeat-more f k m t r p h l e =
         by-range k (k + m) i (λ x. moved-below r r k 0 m i (rw same b) x ∙ old i b x)
         (λ x y. moved-in r r k 0 m i (rw same b) x y ∙ old (0 + (i - k)) (omega arith) (omega arith) ∙ sym (p (0 + (i - k))) ∙ ap f (omega arith))
         (λ x. absurd (omega arith))
+
+-- the first k bytes of t are repeated in r; k and the next step's width w are periods of them
+pub record Repeating (t : List ℕ) (b end : ℕ) (r : List ℕ) (w k : ℕ) : Type 0 where
+  pub some : 1 ≤ w
+  pub most : w ≤ blockSize
+  pub known : w ≤ k
+  pub room : k ≤ end
+  pub step : Period (λ i. getD t (i % b) 0) w
+  pub place : Period (λ i. getD t (i % b) 0) k
+  pub bytes : r ≡ front (λ i. getD t (i % b) 0) k t
+  pub same : length r ≡ length t
+
+pub repeating-start : (t : List ℕ) (b end : ℕ) → 1 ≤ b → b ≤ blockSize → b ≤ end → Repeating t b end t b b
+repeating-start t b end l m h = record {
+  some = l;
+  most = m;
+  known = omega arith;
+  room = h;
+  step = period-bytes t b;
+  place = period-bytes t b;
+  bytes = repeat-start t b;
+  same = refl;
+}
+
+-- w bytes more, to give r′, and the next step's width w′
+pub repeating-next : {t : List ℕ} {b end : ℕ} {r : List ℕ} {w k : ℕ} → Repeating t b end r w k → end ≤ length t → w ≤ end - k
+    → {r′ : List ℕ} → r′ ≡ moved r r k 0 w → (w′ : ℕ) → w′ ≡ cond (leb w (blockSize / 2)) (w + w) w → Repeating t b end r′ w′ (k + w)
+repeating-next {t} {b} {end} {r} {w} {k} v l h g w′ e =
+    let n = wider-bounds w w′ e (v .most) in
+    record {
+      some = omega (arith, v .some);
+      most = n .2;
+      known = omega (arith, v .known);
+      room = omega (arith, v .room);
+      step = period-wider _ w w′ e (v .step);
+      place = period-sum _ k w (v .place) (v .step);
+      bytes = g ∙ repeat-more _ k w t r (v .place) (v .known) (omega (arith, v .room)) (v .bytes);
+      same = ap length g ∙ moved-length r r k 0 w ∙ v .same;
+    }
+
+-- the rest
+pub repeating-end : {t : List ℕ} {b end : ℕ} {r : List ℕ} {w k : ℕ} → Repeating t b end r w k → end ≤ length t → end - k ≤ w
+    → {r′ : List ℕ} → r′ ≡ moved r r k 0 (end - k) → r′ ≡ front (λ i. getD t (i % b) 0) end t
+repeating-end {t} {b} {end} {r} {w} {k} v l h g =
+    g ∙ repeat-more _ k (end - k) t r (v .place) (omega (arith, v .known)) (omega (arith, v .room)) (v .bytes)
+    ∙ ap (λ (n : ℕ). front (λ i. getD t (i % b) 0) n t) (omega (arith, v .room))
 
 -- ---- the background, n pixels of b bytes
 

@@ -5,11 +5,12 @@ use mathlib.Core.List.{List}
 use mathlib.Core.Bool.{true}
 use lib.ListN.{length, getD}
 use Rattle.plane.specs.Paint.{paint, clear}
+use Rattle.copies.specs.Copied.{blockSize}
 
--- the target t has room for n pixels of b bytes, and the background is one pixel, of at most 4096 bytes
+-- the target t has room for n pixels of b bytes, and the background is one pixel, of at most a block of bytes
 pub record FillRoom (t : List ℕ) (n b : ℕ) (bg : List ℕ) : Type 0 where
   pub bytes : 1 ≤ b
-  pub small : b ≤ 4096
+  pub small : b ≤ blockSize
   pub target : n * b ≤ length t
   pub pixel : length bg ≡ b
 

@@ -1,9 +1,10 @@
 // The start of a composition over lent bytes: background, and a zero map.
 ghost use mathlib.Core.Path.{_≡_};
 ghost use mathlib.Core.Bool.{true, cond};
-ghost use Prim.Native.Nat.{ℕ, _*_, _≤_, _<_, _+_, _^_, _%_};
+ghost use Prim.Native.Nat.{_*_, _≤_, _+_, _%_, _/_};
 ghost use lib.Dec.{leb};
 ghost use lib.ListN.{length, getD};
+ghost use Rattle.copies.specs.Copied.{blockSize};
 ghost use Rattle.blank.specs.Front.{front, Alike};
 ghost use Rattle.blank.specs.Blank.{FillRoom, Filled, Cleared};
 
@@ -22,7 +23,7 @@ fn fill_byte(dst: &mut [u8], n: usize, v: u8)
 // Whether all bytes of the pixel are its first, as they are in black, in white and in every pixel of one byte.
 fn uniform(bg: &[u8]) -> bool
     requires { ⌜ 1 ≤ length (now bg) ⌝ }
-    ensures { λ r. ⌜ (r ≡ true → Alike (now (bg .entry)) (length (now (bg .entry)))) ⌝ }
+    ensures { λ r. ⌜ (r ≡ true → Alike (now (bg .entry)) (length (now (bg .entry)))) × (Alike (now (bg .entry)) (length (now (bg .entry))) → r ≡ true) ⌝ }
 {
     let v = bg[0];
     let mut k: usize = 1;
@@ -35,20 +36,20 @@ fn uniform(bg: &[u8]) -> bool
     true
 }
 
-// The width of the next step: twice this one, while that is at most 12288 bytes.
+// The width of the next step: twice this one, while that is at most a block.
 fn wider(w: usize) -> usize
-    requires { ⌜ w ≤ 12288 ⌝ }
-    ensures { λ r. ⌜ r ≡ cond (leb w 6144) (w + w) w ⌝ }
+    requires { ⌜ w ≤ blockSize ⌝ }
+    ensures { λ r. ⌜ r ≡ cond (leb w (blockSize / 2)) (w + w) w ⌝ }
 {
-    if w <= 6144 {
+    if w <= copies::BLOCK / 2 {
         return w + w;
     }
     w
 }
 
-// The first b bytes are repeated up to number end: the bytes from 0 on are copied on, twice as many each time, up to 12288.
+// The first b bytes are repeated up to number end: the bytes from 0 on are copied on, twice as many each time, up to a block.
 fn repeat(dst: &mut [u8], b: usize, end: usize)
-    requires { ⌜ (1 ≤ b) × (b ≤ 4096) × (b ≤ end) × (end ≤ length (now dst)) ⌝ }
+    requires { ⌜ (1 ≤ b) × (b ≤ blockSize) × (b ≤ end) × (end ≤ length (now dst)) ⌝ }
     ensures { λ _. ⌜ now (dst .exit) ≡ front (λ i. getD (now (dst .entry)) (i % b) 0) end (now (dst .entry)) ⌝ }
 {
     let mut w = b;

@@ -1,25 +1,10 @@
 -- `blank::repeat` meets its contract.
-use mathlib.Core.Path.{_≡_, refl, ap, _∙_}
-use Prim.Native.Nat.{ℕ, _-_, _%_, _≤_}
+use Prim.Native.Nat.{_-_}
 use native.Mathlib.Omega.{arith}
 use borrow.Author.Needs.{needs}
-use mathlib.Core.List.{List}
-use lib.ListN.{length, getD}
-use Rattle.blank.specs.Front.{front}
-use Rattle.blank.proofs.Repeats.{Period, wider-bounds, period-sum, period-wider, period-bytes, repeat-start, repeat-more}
+use Rattle.blank.proofs.Repeats.{Repeating, repeating-start, repeating-next, repeating-end}
 use Rattle.blank.proofs.repeat.Statement.{statement}
 use Rattle.blank.proofs.repeat.Tie as tie
-
--- the first k bytes of t are repeated in r; k and the next step's width w are periods of them
-record Repeating (t : List ℕ) (b end : ℕ) (r : List ℕ) (w k : ℕ) : Type 0 where
-  some : 1 ≤ w
-  most : w ≤ 12288
-  known : w ≤ k
-  room : k ≤ end
-  step : Period (λ i. getD t (i % b) 0) w
-  place : Period (λ i. getD t (i % b) 0) k
-  bytes : r ≡ front (λ i. getD t (i % b) 0) k t
-  same : length r ≡ length t
 
 abbrev Inv-loop : tie.InvT-loop
 Inv-loop dst₀ b end w₀ k₀ dst w k = Repeating dst₀ b end dst w k
@@ -29,18 +14,8 @@ abbrev μ-loop : tie.MeasureT-loop
 
 loop-holds : tie.Need-loop-holds Inv-loop μ-loop
 loop-holds c =
-    let a = c .before .args in
-    let p = period-bytes (a .dst .now) (a .b) in
-    record {
-      some = omega arith;
-      most = omega arith;
-      known = omega arith;
-      room = omega arith;
-      step = p;
-      place = p;
-      bytes = repeat-start (a .dst .now) (a .b);
-      same = refl;
-    }
+    let s = c .before in
+    repeating-start (s .args .dst .now) (s .args .b) (s .args .end) (s .pre .0) (s .pre .1) (s .pre .2)
 
 sub-loop : tie.Need-sub-loop Inv-loop μ-loop
 sub-loop c = omega arith
@@ -59,21 +34,9 @@ loop-less c = omega arith
 
 loop-again : tie.Need-loop-again Inv-loop μ-loop
 loop-again c =
-    let l = c .before .before .before .before .before .before in
-    let a = l .before .before .args in
-    let v = l .loop in
-    let e = c .wider .ensures in
-    let b = wider-bounds (v .w) (c .wider .result) e (v .inv .most) in
-    record {
-      some = omega arith;
-      most = b .2;
-      known = omega arith;
-      room = omega arith;
-      step = period-wider _ (v .w) (c .wider .result) e (v .inv .step);
-      place = period-sum _ (v .k) (v .w) (v .inv .place) (v .inv .step);
-      bytes = c .before .before .before .copy-within .ensures ∙ repeat-more _ (v .k) (v .w) (a .dst .now) (v .dst) (v .inv .place) (v .inv .known) (omega arith) (v .inv .bytes);
-      same = search needs;
-    }
+    let m = c .before .before .before in
+    let l = m .before .before .before in
+    repeating-next (l .loop .inv) (l .before .before .pre .3) (omega arith) (m .copy-within .ensures) (c .wider .result) (c .wider .ensures)
 
 sub-copy-within : tie.Need-sub-copy-within Inv-loop μ-loop
 sub-copy-within c = omega arith
@@ -87,11 +50,8 @@ same-length c = search needs
 returns : tie.Need-returns Inv-loop μ-loop
 returns c =
     let m = c .before .before in
-    let v = m .before .before .before .loop in
-    let a = m .before .before .before .before .before .args in
-    m .copy-within2 .ensures
-    ∙ repeat-more _ (v .k) (a .end - v .k) (a .dst .now) (v .dst) (v .inv .place) (omega arith) (omega arith) (v .inv .bytes)
-    ∙ ap (λ (k : ℕ). front (λ i. getD (a .dst .now) (i % a .b) 0) k (a .dst .now)) (omega arith)
+    let l = m .before .before .before in
+    repeating-end (l .loop .inv) (l .before .before .pre .3) (omega arith) (m .copy-within2 .ensures)
 
 pub repeat-spec : {M : Type 1} → statement M
 repeat-spec =

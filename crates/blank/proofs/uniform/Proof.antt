@@ -1,5 +1,5 @@
 -- `blank::uniform` meets its contract.
-use mathlib.Core.Path.{_≡_}
+use mathlib.Core.Path.{_≡_, refl}
 use Prim.Native.Nat.{ℕ, _-_, _≤_}
 use native.Mathlib.Omega.{arith}
 use lib.ListN.{length}
@@ -24,9 +24,7 @@ shared-slice-read-if1 : tie.Need-shared-slice-read-if1 Inv-loop μ-loop
 shared-slice-read-if1 c = omega arith
 
 returns : tie.Need-returns Inv-loop μ-loop
-returns c e =
-    let z : _≡_ {A = ℕ} 0 1 = cc in
-    absurd (omega arith)
+returns c = (λ e. let z : _≡_ {A = ℕ} 0 1 = cc in absurd (omega arith), λ a. absurd (c .if1 .taken (a (c .before .before .before .loop .k) (omega arith))))
 
 add-k : tie.Need-add-k Inv-loop μ-loop
 add-k c = omega arith
@@ -40,7 +38,7 @@ loop-again c =
     (omega arith, omega arith, alike-more (c .before .before .before .before .before .args .bg .now) (v .k) (v .inv .2) (c .if1 .left))
 
 returns-2 : tie.Need-returns-2 Inv-loop μ-loop
-returns-2 c e k h = c .before .loop .inv .2 k (omega arith)
+returns-2 c = (λ e k h. c .before .loop .inv .2 k (omega arith), λ _. refl)
 
 pub uniform-spec : {M : Type 1} → statement M
 uniform-spec =
