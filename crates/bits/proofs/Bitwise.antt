@@ -10,7 +10,7 @@ use lib.Dec.{leb, ltb, eqb}
 use lib.Pow.{pow-mono, shr-shr, shr-le}
 use borrow.Author.Tests.{lt-ltb, le-ltb, le-leb, lt-leb}
 use Rattle.plane.specs.Paint.{bitIn, pack}
-use Rattle.plane.proofs.BitLaws.{bit-pack, pack-lt, same-bits}
+use Rattle.plane.proofs.BitLaws.{each8, bit-pack, pack-lt, same-bits}
 
 -- an operation that goes digit by digit goes bit by bit
 module _ (op : ℕ → ℕ → ℕ) (on : Bool → Bool → Bool)
@@ -43,15 +43,7 @@ xor-bit = op-bit bitXor xor xor-shr xor-mod refl refl refl refl
 
 -- a byte of ones shifted down by s: the bits from number s on
 odd : (e : ℕ) → e < 8 → eqb (255 / 2 ^ e % 2) 1 ≡ true
-odd zero l = refl
-odd (suc zero) l = refl
-odd (suc (suc zero)) l = refl
-odd (suc (suc (suc zero))) l = refl
-odd (suc (suc (suc (suc zero)))) l = refl
-odd (suc (suc (suc (suc (suc zero))))) l = refl
-odd (suc (suc (suc (suc (suc (suc zero)))))) l = refl
-odd (suc (suc (suc (suc (suc (suc (suc zero))))))) l = refl
-odd (suc (suc (suc (suc (suc (suc (suc (suc e)))))))) l = absurd (omega arith)
+odd = each8 (λ e. eqb (255 / 2 ^ e % 2) 1 ≡ true) refl refl refl refl refl refl refl refl
 
 ones-bit : (s i : ℕ) → i < 8 → bitIn (255 / 2 ^ s) i ≡ leb s i
 unfolding bitIn

@@ -1,3 +1,4 @@
+-- Laws of bits read and set.
 pub mod Bitwise
 pub mod OneBit
 pub mod Ranges

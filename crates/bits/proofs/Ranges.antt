@@ -56,8 +56,8 @@ or-marks m h k v l hv =
 
 -- ---- ranges
 
-pub same-range : (m : List ℕ) {a a′ c c′ : ℕ} → a ≡ a′ → c ≡ c′ → mark c (λ q. leb a q) m ≡ mark c′ (λ q. leb a′ q) m
-same-range m e f = ap₂ (λ (z n : ℕ). mark n (λ q. leb z q) m) e f
+pub marked-ext : (m : List ℕ) {a a′ c c′ : ℕ} → a ≡ a′ → c ≡ c′ → mark c (λ q. leb a q) m ≡ mark c′ (λ q. leb a′ q) m
+marked-ext m e f = ap₂ (λ (z n : ℕ). mark n (λ q. leb z q) m) e f
 
 module _ (m : List ℕ) (h : Bytes m) where
   -- the same bits marked
@@ -68,11 +68,11 @@ module _ (m : List ℕ) (h : Bytes m) where
       mark-bit n on m q l ∙ ap (λ (x : Bool). x || bit m q) (e q) ∙ sym (mark-bit n′ on′ m q l))
 
   -- no bit
-  pub range-none : (a : ℕ) → mark a (λ q. leb a q) m ≡ m
-  range-none a = mark-noop a _ m (λ k _. h k) (λ q l. rw (lt-leb a q l))
+  pub marked-none : (a : ℕ) → mark a (λ q. leb a q) m ≡ m
+  marked-none a = mark-noop a _ m (λ k _. h k) (λ q l. rw (lt-leb a q l))
 
   -- up to b, and then up to c
-  pub range-add : (a b c : ℕ) → a ≤ b → b ≤ c → mark c (λ q. leb b q) (mark b (λ q. leb a q) m) ≡ mark c (λ q. leb a q) m
+  range-add : (a b c : ℕ) → a ≤ b → b ≤ c → mark c (λ q. leb b q) (mark b (λ q. leb a q) m) ≡ mark c (λ q. leb a q) m
   range-add a b c ab bc =
       same-map (mark c _ (mark b _ m)) (mark c _ m) (mark-length c _ _ ∙ mark-length b _ m ∙ sym (mark-length c _ m))
       (mark-bytes c _ _ (mark-bytes b _ m h)) (mark-bytes c _ m h)

@@ -6,16 +6,16 @@ ghost use lib.Dec.{eqb, leb, ltb};
 ghost use lib.ListN.{length};
 ghost use Rattle.plane.specs.Paint.{bit, bitIn, mark, pack};
 
-// Bit p of a map, high bit first.
-pub fn bit_at(map: &[u8], p: usize) -> bool
-    requires { ⌜ p < 8 * length (now map) ⌝ }
-    ensures { λ r. ⌜ r ≡ bit (now (map .entry)) p ⌝ }
+// Bit p, high bit first.
+pub fn bit_at(s: &[u8], p: usize) -> bool
+    requires { ⌜ p < 8 * length (now s) ⌝ }
+    ensures { λ r. ⌜ r ≡ bit (now (s .entry)) p ⌝ }
 {
-    let x = map[p / 8];
+    let x = s[p / 8];
     (x >> (7 - p % 8)) % 2 == 1
 }
 
-// Sets bit p of the map, which is zero.
+// Sets bit p, which is zero before.
 pub fn set_bit(map: &mut [u8], p: usize)
     requires { ⌜ (p < 8 * length (now map)) × (bit (now map) p ≡ false) ⌝ }
     ensures { λ _. ⌜ now (map .exit) ≡ mark (p + 1) (λ q. eqb q p) (now (map .entry)) ⌝ }
@@ -25,7 +25,7 @@ pub fn set_bit(map: &mut [u8], p: usize)
 }
 
 // The byte whose set bits are those from number s up to number t.
-pub fn ones_between(s: usize, t: usize) -> u8
+fn ones_between(s: usize, t: usize) -> u8
     requires { ⌜ (s ≤ t) × (t ≤ 8) ⌝ }
     ensures { λ r. ⌜ r ≡ pack (λ i. leb s i && ltb i t) ⌝ }
 {
@@ -33,7 +33,7 @@ pub fn ones_between(s: usize, t: usize) -> u8
 }
 
 // Sets those bits of byte k that v has set.
-pub fn or_byte(map: &mut [u8], k: usize, v: u8)
+fn or_byte(map: &mut [u8], k: usize, v: u8)
     requires { ⌜ k < length (now map) ⌝ }
     ensures { λ _. ⌜ now (map .exit) ≡ mark (8 * k + 8) (λ q. leb (8 * k) q && bitIn v (q % 8)) (now (map .entry)) ⌝ }
 {
@@ -41,7 +41,7 @@ pub fn or_byte(map: &mut [u8], k: usize, v: u8)
 }
 
 // Sets the bits from number s up to number t of byte k; a byte of which it sets none need not be there.
-pub fn set_part(map: &mut [u8], k: usize, s: usize, t: usize)
+fn set_part(map: &mut [u8], k: usize, s: usize, t: usize)
     requires { ⌜ (s ≤ t) × (t ≤ 8) × (8 * k + t ≤ 8 * length (now map)) ⌝ }
     ensures { λ _. ⌜ now (map .exit) ≡ mark (8 * k + t) (λ q. leb (8 * k + s) q) (now (map .entry)) ⌝ }
 {
@@ -53,7 +53,7 @@ pub fn set_part(map: &mut [u8], k: usize, s: usize, t: usize)
 }
 
 // Sets every bit of the bytes from number k up to number j. A byte `|` 255 is 255, so the compiler makes one fill of the loop.
-pub fn set_whole(map: &mut [u8], k: usize, j: usize)
+fn set_whole(map: &mut [u8], k: usize, j: usize)
     requires { ⌜ (k ≤ j) × (j ≤ length (now map)) ⌝ }
     ensures { λ _. ⌜ now (map .exit) ≡ mark (8 * j) (λ q. leb (8 * k) q) (now (map .entry)) ⌝ }
 {

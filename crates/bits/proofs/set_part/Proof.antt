@@ -4,7 +4,7 @@ use Prim.Native.Nat.{_*_}
 use native.Mathlib.Omega.{arith}
 use borrow.Author.Needs.{needs}
 use Rattle.plane.proofs.PaintLaws.{Bytes}
-use Rattle.bits.proofs.Ranges.{same-range, range-none, range-part}
+use Rattle.bits.proofs.Ranges.{marked-ext, marked-none, range-part}
 use Rattle.bits.proofs.set_part.Statement.{statement}
 use Rattle.bits.proofs.set_part.Tie as tie
 
@@ -14,8 +14,8 @@ bytes s k = omega (arith, s .slice-known .given k)
 returns : tie.Need-returns
 returns c =
     let a = c .before .before .args in
-    sym (range-none (a .map .now) (bytes (c .before)) (8 * a .k))
-    ∙ same-range (a .map .now) (omega arith) (omega arith)
+    sym (marked-none (a .map .now) (bytes (c .before)) (8 * a .k))
+    ∙ marked-ext (a .map .now) (omega arith) (omega arith)
 
 ones-between-requires : tie.Need-ones-between-requires
 ones-between-requires c κs = search needs

@@ -4,7 +4,7 @@ use Prim.Native.Nat.{_*_, _+_, _/_, _%_}
 use native.Mathlib.Omega.{arith}
 use borrow.Author.Needs.{needs}
 use Rattle.plane.proofs.PaintLaws.{Bytes}
-use Rattle.bits.proofs.Ranges.{same-range, range-then}
+use Rattle.bits.proofs.Ranges.{marked-ext, range-then}
 use Rattle.bits.proofs.set_range.Statement.{statement}
 use Rattle.bits.proofs.set_range.Tie as tie
 
@@ -21,7 +21,7 @@ returns : tie.Need-returns
 returns c =
     let p = c .before .before in
     let a = p .before .before .before .before .args in
-    p .set-part .ensures ∙ same-range (a .map .now) (omega arith) (omega arith)
+    p .set-part .ensures ∙ marked-ext (a .map .now) (omega arith) (omega arith)
 
 set-part-requires-2 : tie.Need-set-part-requires-2
 set-part-requires-2 c κs = search needs
@@ -51,7 +51,7 @@ returns-2 c =
     range-then m (bytes s) (8 * k + a .from % 8) (8 * j) _ _ (omega arith) (omega arith) (omega arith)
     (range-then m (bytes s) (8 * k + a .from % 8) (8 * k + 8) _ _ (omega arith) (omega arith) (omega arith)
     (first .set-part2 .ensures) (whole .set-whole .ensures)) (last .set-part3 .ensures)
-    ∙ same-range m (omega arith) (omega arith)
+    ∙ marked-ext m (omega arith) (omega arith)
 
 pub set-range-spec : {M : Type 1} → statement M
 set-range-spec =

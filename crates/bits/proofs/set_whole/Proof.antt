@@ -6,7 +6,7 @@ use lib.Dec.{leb}
 use lib.ListN.{length}
 use Rattle.plane.specs.Paint.{mark}
 use Rattle.plane.proofs.PaintLaws.{Bytes}
-use Rattle.bits.proofs.Ranges.{same-range, range-none, range-then}
+use Rattle.bits.proofs.Ranges.{marked-ext, marked-none, range-then}
 use Rattle.bits.proofs.set_whole.Statement.{statement}
 use Rattle.bits.proofs.set_whole.Tie as tie
 
@@ -20,7 +20,7 @@ bytes : (s : tie.After-slice-known Inv-loop μ-loop) → Bytes (s .before .args 
 bytes s k = omega (arith, s .slice-known .given k)
 
 loop-holds : tie.Need-loop-holds Inv-loop μ-loop
-loop-holds c = (omega arith, omega arith, sym (range-none _ (bytes c) _), refl)
+loop-holds c = (omega arith, omega arith, sym (marked-none _ (bytes c) _), refl)
 
 set-part-requires : tie.Need-set-part-requires Inv-loop μ-loop
 set-part-requires c κs = omega arith
@@ -40,7 +40,7 @@ loop-again c =
     let m = a .map .now in (
       omega arith,
       omega arith,
-      range-then m (bytes (l .before)) (8 * a .k) (8 * v .i) _ _ (omega arith) (omega arith) (omega arith) (v .inv .2) (p .set-part .ensures) ∙ same-range m refl (omega arith),
+      range-then m (bytes (l .before)) (8 * a .k) (8 * v .i) _ _ (omega arith) (omega arith) (omega arith) (v .inv .2) (p .set-part .ensures) ∙ marked-ext m refl (omega arith),
       p .set-part .kept .0 ∙ v .inv .3,
     )
 
@@ -50,7 +50,7 @@ same-length c = c .before .loop .inv .3
 returns : tie.Need-returns Inv-loop μ-loop
 returns c =
     let v = c .before .loop in
-    v .inv .2 ∙ same-range (c .before .before .before .args .map .now) refl (omega arith)
+    v .inv .2 ∙ marked-ext (c .before .before .before .args .map .now) refl (omega arith)
 
 pub set-whole-spec : {M : Type 1} → statement M
 set-whole-spec =
