@@ -1,3 +1,4 @@
+-- Laws of a row's part of a turn.
 pub mod Rooms
 pub mod Spans
 pub mod Given

@@ -1,7 +1,7 @@
 -- Spans of a row: one that nothing changes, two in turn, and a whole row.
 use mathlib.Core.Path.{_≡_, sym, ap, ap₂, _∙_, subst, fun-ext}
 use mathlib.Core.Logic.{_⊎_, inl, inr}
-use Prim.Native.Nat.{ℕ, _+_, _*_, _-_, _/_, _%_, _≤_, _<_}
+use Prim.Native.Nat.{ℕ, _+_, _*_, _-_, _/_, _≤_, _<_}
 use native.Mathlib.Nat.{lt-of-not-le, div-add-mod', div-lt-iff-lt-mul}
 use native.Mathlib.Decide.{decLt}
 use native.Mathlib.Omega.{arith}
@@ -11,7 +11,7 @@ use lib.Dec.{ltb, leb}
 use lib.ListN.{length, getD}
 use lib.Seq.{ext-getD}
 use borrow.Author.Tests.{lt-ltb, le-ltb, le-leb, lt-leb}
-use Rattle.plane.specs.Sums.{one, sum, count}
+use Rattle.plane.specs.Sums.{one, sum}
 use Rattle.plane.specs.Paint.{bit, mark, paint}
 use Rattle.plane.proofs.SumLaws.{sum-ext, sum-add, count-le, count-none}
 use Rattle.plane.proofs.PaintLaws.{Bytes, same-map, mark-noop, mark-bit, mark-bytes, mark-length, paint-length, paint-at, paint-none}
@@ -20,7 +20,7 @@ use Rattle.paint.specs.Row.{validAt, givesPixel, rowGives, RowPainted, S
 -- ---- the target painted from a row of source bytes
 
 -- the first n pixels, where `on` says
-abbrev pub rowPaint : ℕ → ℕ → (ℕ → Bool) → List ℕ → List ℕ → List ℕ
+abbrev rowPaint : ℕ → ℕ → (ℕ → Bool) → List ℕ → List ℕ → List ℕ
 rowPaint n b on s d = paint n b on (λ p k. getD s (p * b + k) 0) d
 
 pub row-length : (n b : ℕ) (on : ℕ → Bool) (s d : List ℕ) → length (rowPaint n b on s d) ≡ length d
@@ -56,7 +56,7 @@ module _ {d m : List ℕ} {first : ℕ} {s : List ℕ} {b i j : ℕ} {masked : B
   pub span-map : length m′ ≡ length m
   span-map = ap length (o .map) ∙ mark-length (first + j) _ m
 
-  pub span-bytes : Bytes m → Bytes m′
+  span-bytes : Bytes m → Bytes m′
   span-bytes h k = rw (o .map) (mark-bytes (first + j) _ m h k)
 
   -- the bits of the pixels behind it stay

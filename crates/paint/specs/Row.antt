@@ -64,7 +64,7 @@ pub record SpanGiven (dst m : List ℕ) (first : ℕ) (src : List ℕ) (b i j : 
   pub target : dst′ ≡ copied dst src (i * b) (j * b)
   pub map : m′ ≡ mark (first + j) (λ q. leb (first + i) q) m
 
--- a step along the pixels from number i up to number j paints those before `next`, at least one
+-- a step along the pixels from number i up to number j passes those before `next`, at least one
 pub record Stepped (dst m : List ℕ) (first : ℕ) (src : List ℕ) (b i j : ℕ) (masked : Bool) (line : List ℕ) (mw x : ℕ) (quick : Bool) (dst′ m′ : List ℕ) (next r : ℕ)
     : Type 0 where
   pub on : i < next

@@ -1,11 +1,11 @@
 // One row's part of a turn: by runs of the mask's bits within runs of map bits, and where runs are short, by the pixel.
 ghost use mathlib.Core.Path.{_≡_};
 ghost use mathlib.Core.Bool.{true};
-ghost use Prim.Native.Nat.{ℕ, _+_, _*_, _<_, _≤_, _^_, min};
+ghost use Prim.Native.Nat.{_+_, _*_, _<_, _≤_, _^_};
 ghost use lib.ListN.{length};
 ghost use Rattle.paint.specs.Row.{RowRoom, RowPainted, SpanRoom, SpanPainted, SpanGiven, Stepped, Open, validAt};
 
-// The pixel behind the last that a step painted, and how many pixels the step gave.
+// The pixel behind a step's last, and how many pixels the step gave.
 pub struct Step {
     pub next: usize,
     pub given: usize,
@@ -93,6 +93,7 @@ fn paint_pixels(
 // ---- by runs
 
 // The end of the pixels from i up to j that are painted one by one where the run from bit p on is short: about two bytes' bits, to a byte's end.
+// Any end past i would do.
 fn short_end(i: usize, j: usize, p: usize) -> usize
     requires { ⌜ i < j ⌝ }
     ensures { λ r. ⌜ (i < r) × (r ≤ j) ⌝ }

@@ -1,8 +1,7 @@
 -- `paint::paint_masked` meets its contract: the invariant is what the contract says, of the pixels passed.
-use mathlib.Core.Path.{_≡_, refl, subst}
 use mathlib.Core.Logic.{inl}
 use mathlib.Core.Bool.{true}
-use Prim.Native.Nat.{ℕ, _+_, _-_, _≤_}
+use Prim.Native.Nat.{_+_, _-_, _≤_}
 use native.Mathlib.Omega.{arith}
 use Rattle.plane.proofs.PaintLaws.{Bytes}
 use Rattle.paint.specs.Row.{SpanPainted}

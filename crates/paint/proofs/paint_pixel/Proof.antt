@@ -1,11 +1,10 @@
 -- `paint::paint_pixel` meets its contract.
-use mathlib.Core.Path.{_≡_, sym, ap, _∙_}
+use mathlib.Core.Path.{_≡_, sym, _∙_}
 use mathlib.Core.Logic.{inl, inr}
 use mathlib.Core.Bool.{true}
-use Prim.Native.Nat.{ℕ, _+_}
+use Prim.Native.Nat.{_+_}
 use native.Mathlib.Omega.{arith}
 use borrow.Author.Tests.{not-true, not-false}
-use Rattle.plane.specs.Paint.{bit}
 use Rattle.plane.proofs.PaintLaws.{Bytes}
 use Rattle.paint.specs.Row.{validAt}
 use Rattle.paint.proofs.Given.{pixel-left, pixel-over, pixel-new}

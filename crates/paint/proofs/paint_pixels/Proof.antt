@@ -3,7 +3,6 @@ use mathlib.Core.Path.{_≡_, refl, subst}
 use Prim.Native.Nat.{ℕ, _+_, _*_, _-_, _≤_}
 use native.Mathlib.Nat.{mul-le-mul-right}
 use native.Mathlib.Omega.{arith}
-use lib.ListN.{length}
 use Rattle.plane.proofs.PaintLaws.{Bytes}
 use Rattle.paint.specs.Row.{SpanPainted}
 use Rattle.paint.proofs.Rooms.{room-less, room-kept}

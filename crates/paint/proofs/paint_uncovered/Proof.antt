@@ -1,5 +1,5 @@
 -- `paint::paint_uncovered` meets its contract: the invariant is what the contract says, of the pixels passed.
-use mathlib.Core.Path.{_≡_, subst}
+use mathlib.Core.Path.{subst}
 use mathlib.Core.Bool.{true}
 use Prim.Native.Nat.{ℕ, _-_, _≤_}
 use native.Mathlib.Omega.{arith}
