@@ -1,6 +1,6 @@
 // A tile's turn: the rows of the tile that meet the window, each painted into its own stretch of the target.
 ghost use mathlib.Core.Path.{_≡_};
-ghost use Prim.Native.Nat.{ℕ, _+_, _*_, _<_, _≤_, min, max, _^_};
+ghost use Prim.Native.Nat.{_+_, _*_, _<_, min, max, _^_};
 ghost use Rattle.turns.specs.Turned.{Clipped, LineOf, StretchRoom, StretchPainted, TurnRoom, Turned};
 
 // A rectangle of the plane: a window, or a tile's. Coordinates are the signed ones plus 2^31.
