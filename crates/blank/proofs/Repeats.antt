@@ -19,30 +19,30 @@ use Rattle.blank.proofs.Front.{front-none, front-length, front-in, fron
 -- ---- periods
 
 -- f is the same k further on
-abbrev pub Period : (ℕ → ℕ) → ℕ → Type 0
+abbrev Period : (ℕ → ℕ) → ℕ → Type 0
 Period f k = (i : ℕ) → f (k + i) ≡ f i
 
-pub period-sum : (f : ℕ → ℕ) (k w : ℕ) → Period f k → Period f w → Period f (k + w)
+period-sum : (f : ℕ → ℕ) (k w : ℕ) → Period f k → Period f w → Period f (k + w)
 period-sum f k w p q i = ap f (add-assoc k w i) ∙ p (w + i) ∙ q i
 
 -- the next step's width
-pub wider-bounds : (w r : ℕ) → r ≡ cond (leb w (blockSize / 2)) (w + w) w → w ≤ blockSize → (w ≤ r) × (r ≤ w + w) × (r ≤ blockSize)
+wider-bounds : (w r : ℕ) → r ≡ cond (leb w (blockSize / 2)) (w + w) w → w ≤ blockSize → (w ≤ r) × (r ≤ w + w) × (r ≤ blockSize)
 wider-bounds w r e h =
     rw e (cond-case (λ x. (w ≤ x) × (x ≤ w + w) × (x ≤ blockSize)) (leb w (blockSize / 2)) (λ l. (omega arith, omega arith, omega (arith, leb-true w (blockSize / 2) l))) (λ l. (omega arith, omega arith, h)))
 
-pub period-wider : (f : ℕ → ℕ) (w r : ℕ) → r ≡ cond (leb w (blockSize / 2)) (w + w) w → Period f w → Period f r
+period-wider : (f : ℕ → ℕ) (w r : ℕ) → r ≡ cond (leb w (blockSize / 2)) (w + w) w → Period f w → Period f r
 period-wider f w r e p = rw e (cond-case (Period f) (leb w (blockSize / 2)) (λ l. period-sum f w w p p) (λ l. p))
 
-pub period-bytes : (t : List ℕ) (b : ℕ) → Period (λ i. getD t (i % b) 0) b
+period-bytes : (t : List ℕ) (b : ℕ) → Period (λ i. getD t (i % b) 0) b
 period-bytes t b i = ap (λ (j : ℕ). getD t j 0) (add-mod-left b i)
 
 -- ---- the first b bytes of t repeated
 
-pub repeat-start : (t : List ℕ) (b : ℕ) → t ≡ front (λ i. getD t (i % b) 0) b t
+repeat-start : (t : List ℕ) (b : ℕ) → t ≡ front (λ i. getD t (i % b) 0) b t
 repeat-start t b = front-is _ b t t refl (λ i h l. ap (λ (j : ℕ). getD t j 0) (sym (mod-eq-of-lt l))) (λ i h l. refl)
 
 -- the first m bytes copied to where the repetition ends
-pub repeat-more : (f : ℕ → ℕ) (k m : ℕ) (t r : List ℕ) → Period f k → m ≤ k → k + m ≤ length t → r ≡ front f k t → moved r r k 0 m ≡ front f (k + m) t
+repeat-more : (f : ℕ → ℕ) (k m : ℕ) (t r : List ℕ) → Period f k → m ≤ k → k + m ≤ length t → r ≡ front f k t → moved r r k 0 m ≡ front f (k + m) t
 repeat-more f k m t r p h l e =
     front-is f (k + m) t (moved r r k 0 m) (moved-length r r k 0 m ∙ same) new
     (λ i b q. moved-past r r k 0 m i (rw same b) q ∙ ap (λ (x : List ℕ). getD x i 0) e ∙ front-past f k t i b (omega arith))

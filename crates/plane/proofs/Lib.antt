@@ -1,3 +1,4 @@
+-- Laws of the theory of a composed plane.
 pub mod Tests
 pub mod SumLaws
 pub mod BitLaws

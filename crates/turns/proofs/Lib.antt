@@ -1,3 +1,4 @@
+-- Laws of a tile's turn.
 pub mod Parts
 pub mod Stretches
 pub mod Turns
