@@ -1,17 +1,16 @@
 -- Bytes copied from one number up to another.
 use mathlib.Core.Path.{_≡_, refl, sym, ap, _∙_}
-use Prim.Native.Nat.{ℕ, _+_, _≤_, _<_}
+use Prim.Native.Nat.{ℕ, _≤_, _<_}
 use native.Mathlib.Nat.{lt-of-not-le}
 use native.Mathlib.Decide.{decLt}
 use native.Mathlib.Omega.{arith}
 use mathlib.Core.List.{List}
 use mathlib.Core.Bool.{Bool, true, false, cond, _&&_}
 use lib.Dec.{ltb, leb}
-use lib.ListN.{length, getD, set}
+use lib.ListN.{length, getD}
 use lib.Seq.{ext-getD}
 use borrow.Author.Tests.{lt-ltb, le-ltb, le-leb, lt-leb}
-use Rattle.plane.proofs.Tests.{ltb-next}
-use Rattle.plane.proofs.SumLaws.{tab-ext, tab-getD, tab-set, length-tab, getD-tab}
+use Rattle.plane.proofs.SumLaws.{tab-ext, tab-getD, length-tab, getD-tab}
 use Rattle.copies.specs.Copied.{copied}
 
 -- ---- the numbers from a up to e
@@ -55,12 +54,6 @@ copied-at d s a e k h = getD-tab (length d) _ k h
 pub copied-none : (d s : List ℕ) (a : ℕ) → copied d s a a ≡ d
 unfolding copied
 copied-none d s a = tab-ext (length d) _ _ (λ k l. ap (λ (x : Bool). cond x (getD s k 0) (getD d k 0)) (range-none a k)) ∙ sym (tab-getD d)
-
-pub copied-more : (d s : List ℕ) (a j : ℕ) → a ≤ j → j < length d → set (copied d s a j) j (getD s j 0) ≡ copied d s a (j + 1)
-unfolding copied
-copied-more d s a j h l =
-    tab-set (length d) _ _ j (getD s j 0) l (rw (le-leb a j h, lt-ltb j (j + 1) (omega arith)))
-    (λ k b n. ap (λ (x : Bool). cond (leb a k && x) (getD s k 0) (getD d k 0)) (ltb-next k j n))
 
 -- ---- the byte at number k after a copy
 

@@ -48,7 +48,7 @@ moved-past d s p q n k l h = moved-at d s p q n k l ∙ rw (range-past p (p + n)
 -- ---- whole moves
 
 -- a move to the same numbers is a copy
-moved-same : (d s : List ℕ) (a e : ℕ) → a ≤ e → moved d s a a (e - a) ≡ copied d s a e
+pub moved-same : (d s : List ℕ) (a e : ℕ) → a ≤ e → moved d s a a (e - a) ≡ copied d s a e
 moved-same d s a e h =
     ext-getD 0 _ _ (moved-length d s a a (e - a) ∙ sym (copied-length d s a e)) (λ k l. at k (rw (moved-length d s a a (e - a)) at l))
   where

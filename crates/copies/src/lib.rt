@@ -7,18 +7,6 @@ ghost use Rattle.copies.specs.Copied.{copied, moved, blockSize};
 // The bytes of a block: `blockSize` of the contracts. blank's steps go by it, and the test of the built archive knows it.
 pub const BLOCK: usize = 12288;
 
-// Copies the bytes from number a up to number e, to the same numbers, one by one: for the few bytes of a pixel.
-pub fn copy_few(dst: &mut [u8], src: &[u8], a: usize, e: usize)
-    requires { ⌜ (a ≤ e) × (e ≤ length (now dst)) × (e ≤ length (now src)) ⌝ }
-    ensures { λ _. ⌜ now (dst .exit) ≡ copied (now (dst .entry)) (now (src .entry)) a e ⌝ }
-{
-    let mut k = a;
-    while k < e {
-        dst[k] = src[k];
-        k += 1;
-    }
-}
-
 // Copies n bytes, from number q on, to number p on, one by one.
 fn shift(dst: &mut [u8], src: &[u8], p: usize, q: usize, n: usize)
     requires { ⌜ (p + n ≤ length (now dst)) × (q + n ≤ length (now src)) ⌝ }
@@ -29,6 +17,14 @@ fn shift(dst: &mut [u8], src: &[u8], p: usize, q: usize, n: usize)
         dst[p + i] = src[q + i];
         i += 1;
     }
+}
+
+// Copies the bytes from number a up to number e, to the same numbers, one by one: for the few bytes of a pixel.
+pub fn copy_few(dst: &mut [u8], src: &[u8], a: usize, e: usize)
+    requires { ⌜ (a ≤ e) × (e ≤ length (now dst)) × (e ≤ length (now src)) ⌝ }
+    ensures { λ _. ⌜ now (dst .exit) ≡ copied (now (dst .entry)) (now (src .entry)) a e ⌝ }
+{
+    shift(dst, src, a, a, e - a);
 }
 
 // Copies at most a block's bytes through a block of its own. No other memory can be the block's, so the compiler makes one memmove of the two
