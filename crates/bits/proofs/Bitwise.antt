@@ -71,3 +71,8 @@ module _ (s t : ℕ) (h : s ≤ t) where
       between i (yes a) (yes b) = rw (le-leb s i a, lt-leb t i b, lt-ltb i t b)
       between i (yes a) (no b) = rw (le-leb s i a, le-leb t i (omega (arith, lt-of-not-le b)), le-ltb i t (omega (arith, lt-of-not-le b)))
       between i (no a) b = rw (lt-leb s i (lt-of-not-le a), lt-leb t i (omega (arith, lt-of-not-le a)))
+
+-- the byte whose one set bit is number i
+pub one-packs : (i : ℕ) → i < 8 → 128 / 2 ^ i ≡ pack (λ j. leb i j && ltb j (i + 1))
+unfolding pack
+one-packs = each8 (λ i. 128 / 2 ^ i ≡ pack (λ j. leb i j && ltb j (i + 1))) refl refl refl refl refl refl refl refl

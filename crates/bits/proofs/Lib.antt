@@ -1,4 +1,3 @@
 -- Laws of bits read and set.
 pub mod Bitwise
-pub mod OneBit
 pub mod Ranges

@@ -1,6 +1,6 @@
 -- A range of a bit string marked: one byte's part of it, and two ranges that meet.
 use mathlib.Core.Path.{_≡_, sym, ap, ap₂, _∙_}
-use Prim.Native.Nat.{ℕ, _+_, _*_, _/_, _%_, _≤_, _<_}
+use Prim.Native.Nat.{ℕ, _+_, _*_, _/_, _%_, _^_, _≤_, _<_}
 use native.Mathlib.Nat.{lt-of-not-le}
 use native.Mathlib.Decide.{decLt, decLe, ℕ-discrete}
 use native.Mathlib.Omega.{arith}
@@ -14,7 +14,7 @@ use borrow.Author.Tests.{lt-ltb, le-ltb, le-leb, lt-leb}
 use Rattle.plane.specs.Paint.{bitIn, bit, pack, mark}
 use Rattle.plane.proofs.BitLaws.{bit-pack}
 use Rattle.plane.proofs.PaintLaws.{Bytes, cell, same-map, mark-noop, mark-bit, mark-bytes, mark-length}
-use Rattle.bits.proofs.Bitwise.{or-bit}
+use Rattle.bits.proofs.Bitwise.{or-bit, one-packs}
 
 -- ---- one byte stored
 
@@ -110,3 +110,7 @@ module _ (m : List ℕ) (h : Bytes m) where
       same q (yes a) (no b) c d =
           rw (lt-ltb q (8 * k + 8) a, lt-leb (8 * k) q (lt-of-not-le b), lt-leb (8 * k + s) q (omega (arith, lt-of-not-le b))) (sym (and-false (ltb q (8 * k + t))))
       same q (no a) b c d = rw (le-ltb q (8 * k + 8) (omega (arith, lt-of-not-le a)), le-ltb q (8 * k + t) (omega (arith, lt-of-not-le a)))
+
+  -- one bit
+  pub range-one : (p : ℕ) → mark (8 * (p / 8) + 8) (λ q. leb (8 * (p / 8)) q && bitIn (128 / 2 ^ (p % 8)) (q % 8)) m ≡ mark (p + 1) (λ q. leb p q) m
+  range-one p = range-part (p / 8) (p % 8) (p % 8 + 1) (omega arith) _ (one-packs (p % 8) (omega arith)) ∙ marked-ext m (omega arith) (omega arith)

@@ -1,8 +1,8 @@
 // The bits of a bit string, high bit first, as a coverage map or a line of a mask: one read, one set, a range set.
 ghost use mathlib.Core.Path.{_≡_};
-ghost use mathlib.Core.Bool.{false, _&&_};
+ghost use mathlib.Core.Bool.{_&&_};
 ghost use Prim.Native.Nat.{_+_, _*_, _%_, _<_, _≤_};
-ghost use lib.Dec.{eqb, leb, ltb};
+ghost use lib.Dec.{leb, ltb};
 ghost use lib.ListN.{length};
 ghost use Rattle.plane.specs.Paint.{bit, bitIn, mark, pack};
 
@@ -13,15 +13,6 @@ pub fn bit_at(s: &[u8], p: usize) -> bool
 {
     let x = s[p / 8];
     (x >> (7 - p % 8)) % 2 == 1
-}
-
-// Sets bit p, which is zero before.
-pub fn set_bit(map: &mut [u8], p: usize)
-    requires { ⌜ (p < 8 * length (now map)) × (bit (now map) p ≡ false) ⌝ }
-    ensures { λ _. ⌜ now (map .exit) ≡ mark (p + 1) (λ q. eqb q p) (now (map .entry)) ⌝ }
-{
-    let k = p / 8;
-    map[k] = map[k] + (1 << (7 - p % 8));
 }
 
 // The byte whose set bits are those from number s up to number t.
@@ -38,6 +29,14 @@ fn or_byte(map: &mut [u8], k: usize, v: u8)
     ensures { λ _. ⌜ now (map .exit) ≡ mark (8 * k + 8) (λ q. leb (8 * k) q && bitIn v (q % 8)) (now (map .entry)) ⌝ }
 {
     map[k] = map[k] | v;
+}
+
+// Sets bit p.
+pub fn set_bit(map: &mut [u8], p: usize)
+    requires { ⌜ p < 8 * length (now map) ⌝ }
+    ensures { λ _. ⌜ now (map .exit) ≡ mark (p + 1) (λ q. leb p q) (now (map .entry)) ⌝ }
+{
+    or_byte(map, p / 8, 128 >> (p % 8));
 }
 
 // Sets the bits from number s up to number t of byte k; a byte of which it sets none need not be there.

@@ -7,10 +7,10 @@ use native.Mathlib.Decide.{decLt, ℕ-discrete}
 use native.Mathlib.Omega.{arith}
 use mathlib.Core.List.{List}
 use mathlib.Core.Bool.{Bool, true, false, cond, not, _&&_, _||_, true≢false}
-use lib.Dec.{ltb, leb, eqb}
+use lib.Dec.{ltb, leb}
 use lib.ListN.{length, getD}
 use lib.Seq.{ext-getD}
-use borrow.Author.Tests.{lt-ltb, le-ltb, le-leb, lt-leb, eq-eqb, ne-eqb}
+use borrow.Author.Tests.{lt-ltb, le-ltb, le-leb, lt-leb}
 use Rattle.plane.specs.Paint.{bit, mark}
 use Rattle.plane.proofs.Tests.{by-bool}
 use Rattle.plane.proofs.SumLaws.{count-all}
@@ -99,13 +99,8 @@ module _ (first : ℕ) (s : List ℕ) (b : ℕ) (hb : 1 ≤ b) (masked : Bool) (
         set q l (no e) = rw (lt-leb (first + i) q (omega arith))
 
     -- a pixel that is not
-    pub pixel-new : bit m (first + i) ≡ false → {m′ : List ℕ} → m′ ≡ mark (first + i + 1) (λ q. eqb q (first + i)) m
+    pub pixel-new : bit m (first + i) ≡ false → {m′ : List ℕ} → m′ ≡ mark (first + i + 1) (λ q. leb (first + i) q) m
         → SpanPainted d m first s b i (i + 1) masked line mw x quick d′ m′ 1
     pixel-new t g =
         given-one (λ _ p l r. ap (λ (n : ℕ). bit m (first + n)) {x = p} {y = i} (omega arith) ∙ t)
-        (g ∙ ap (λ (n : ℕ). mark n (λ q. eqb q (first + i)) m) {x = first + i + 1} {y = first + (i + 1)} (omega arith)
-        ∙ mark-ext (first + (i + 1)) _ _ m (λ q l. same q l (ℕ-discrete q (first + i))))
-      where
-        same : (q : ℕ) → q < first + (i + 1) → Dec (q ≡ first + i) → eqb q (first + i) ≡ leb (first + i) q
-        same q l (yes e) = eq-eqb q (first + i) e ∙ sym (le-leb (first + i) q (omega arith))
-        same q l (no e) = ne-eqb q (first + i) e ∙ sym (lt-leb (first + i) q (omega arith))
+        (g ∙ ap (λ (n : ℕ). mark n (λ q. leb (first + i) q) m) {x = first + i + 1} {y = first + (i + 1)} (omega arith))

@@ -2,7 +2,7 @@
 use mathlib.Core.Path.{_≡_, refl, sym, ap, _∙_}
 use Prim.Native.Nat.{ℕ, zero, suc, _+_, _*_, _-_, _/_, _%_, _^_, _<_}
 use native.Mathlib.Omega.{arith}
-use mathlib.Core.Bool.{Bool, true, false, _||_}
+use mathlib.Core.Bool.{Bool, true, false}
 use lib.Dec.{eqb}
 use Rattle.plane.specs.Sums.{one}
 use Rattle.plane.specs.Paint.{bitIn, pack}
@@ -77,27 +77,3 @@ same-bits x y hx hy e =
     pack-bits x hx
     ∙ (simp (e 0 (omega arith), e 1 (omega arith), e 2 (omega arith), e 3 (omega arith), e 4 (omega arith), e 5 (omega arith), e 6 (omega arith), e 7 (omega arith)))
     ∙ sym (pack-bits y hy)
-
--- a zero bit set
-pack-set : (f : ℕ → Bool) (i : ℕ) → i < 8 → f i ≡ false → pack f + 2 ^ (7 - i) ≡ pack (λ j. eqb j i || f j)
-unfolding pack
-pack-set f =
-    each8 (λ (i : ℕ). f i ≡ false → pack f + 2 ^ (7 - i) ≡ pack (λ j. eqb j i || f j))
-    (λ e. omega (arith, ap one e))
-    (λ e. omega (arith, ap one e))
-    (λ e. omega (arith, ap one e))
-    (λ e. omega (arith, ap one e))
-    (λ e. omega (arith, ap one e))
-    (λ e. omega (arith, ap one e))
-    (λ e. omega (arith, ap one e))
-    (λ e. omega (arith, ap one e))
-
-module _ (x : ℕ) (h : x < 256) (i : ℕ) (l : i < 8) (e : bitIn x i ≡ false) where
-  packed : x + 2 ^ (7 - i) ≡ pack (λ j. eqb j i || bitIn x j)
-  packed = ap (λ (y : ℕ). y + 2 ^ (7 - i)) (pack-bits x h) ∙ pack-set (bitIn x) i l e
-
-  pub set-lt : x + 2 ^ (7 - i) < 256
-  set-lt = rw packed (pack-lt _)
-
-  pub set-bits : (j : ℕ) → j < 8 → bitIn (x + 2 ^ (7 - i)) j ≡ (eqb j i || bitIn x j)
-  set-bits j k = ap (λ (y : ℕ). bitIn y j) packed ∙ bit-pack _ j k

@@ -2,19 +2,19 @@
 use mathlib.Core.Path.{_≡_, sym, ap, ap₂, _∙_, subst, fun-ext}
 use Prim.Native.Nat.{ℕ, _+_, _*_, _-_, _/_, _%_, _^_, _≤_, _<_}
 use native.Mathlib.Nat.{lt-of-lt-of-le, lt-of-not-le, zero-div, div-lt-iff-lt-mul, div-add-mod', mod-lt, le-trans, le-add-right, mul-le-mul-right, le-of-suc-le-suc}
-use native.Mathlib.Decide.{decLt, ℕ-discrete}
+use native.Mathlib.Decide.{decLt}
 use native.Mathlib.Omega.{arith}
 use mathlib.Core.List.{List}
 use mathlib.Core.Bool.{Bool, false, cond, _&&_, _||_}
 use lib.Arith.{digits-lt, digits-div, digits-mod}
 use lib.Dec.{ltb, eqb}
-use lib.ListN.{length, getD, set, length-set, List·getD-eq-default}
-use lib.Seq.{ext-getD, getD-set-same, getD-set-other}
-use borrow.Author.Tests.{lt-ltb, le-ltb, eq-eqb, ne-eqb}
+use lib.ListN.{length, getD, List·getD-eq-default}
+use lib.Seq.{ext-getD}
+use borrow.Author.Tests.{lt-ltb, le-ltb}
 use Rattle.plane.specs.Sums.{tab}
 use Rattle.plane.specs.Paint.{bitIn, bit, pack, paint, mark, clear}
 use Rattle.plane.proofs.SumLaws.{length-tab, getD-tab, tab-ext, tab-getD}
-use Rattle.plane.proofs.BitLaws.{bit-pack, pack-lt, same-bits, set-lt, set-bits}
+use Rattle.plane.proofs.BitLaws.{bit-pack, pack-lt, same-bits}
 
 pub zero-bits : (i : ℕ) → bitIn 0 i ≡ false
 unfolding bitIn
@@ -176,43 +176,3 @@ mark-ext n on on′ m e =
     go : (p : ℕ) → Dec (p < n) → (ltb p n && on p) ≡ (ltb p n && on′ p)
     go p (yes l) = ap (λ (z : Bool). ltb p n && z) (e p l)
     go p (no l) = rw (le-ltb p n (omega (arith, lt-of-not-le l)))
-
--- a zero bit set by a store
-unfoldable pub setBit : List ℕ → ℕ → List ℕ
-setBit m p = set m (p / 8) (getD m (p / 8) 0 + 2 ^ (7 - p % 8))
-
-module _ (m : List ℕ) (h : Bytes m) (p : ℕ) (l : p < 8 * length m) (e : bit m p ≡ false) where
-  pub setBit-length : length (setBit m p) ≡ length m
-  unfolding setBit
-  setBit-length = length-set m (p / 8) _
-
-  at-cell : getD (setBit m p) (p / 8) 0 ≡ getD m (p / 8) 0 + 2 ^ (7 - p % 8)
-  unfolding setBit
-  at-cell = getD-set-same m (p / 8) _ 0 (omega arith)
-
-  off-cell : (k : ℕ) → (k ≡ p / 8 → ⊥) → getD (setBit m p) k 0 ≡ getD m k 0
-  unfolding setBit
-  off-cell k n = getD-set-other m (p / 8) k _ 0 n
-
-  pub setBit-bytes : Bytes (setBit m p)
-  unfolding bit
-  setBit-bytes k = go (ℕ-discrete k (p / 8))
-    where
-      go : Dec (k ≡ p / 8) → getD (setBit m p) k 0 < 256
-      go (yes q) = rw (q, at-cell) (set-lt (getD m (p / 8) 0) (h (p / 8)) (p % 8) (omega arith) e)
-      go (no q) = rw (off-cell k q) (h k)
-
-  pub setBit-bit : (q : ℕ) → bit (setBit m p) q ≡ (eqb q p || bit m q)
-  unfolding bit
-  setBit-bit q = go (ℕ-discrete (q / 8) (p / 8)) (ℕ-discrete (q % 8) (p % 8))
-    where
-      go : Dec (q / 8 ≡ p / 8) → Dec (q % 8 ≡ p % 8) → bitIn (getD (setBit m p) (q / 8) 0) (q % 8) ≡ (eqb q p || bitIn (getD m (q / 8) 0) (q % 8))
-      go (yes a) d =
-          ap (λ (k : ℕ). bitIn (getD (setBit m p) k 0) (q % 8)) a ∙ ap (λ (x : ℕ). bitIn x (q % 8)) at-cell
-          ∙ set-bits (getD m (p / 8) 0) (h (p / 8)) (p % 8) (omega arith) e (q % 8) (omega arith)
-          ∙ ap₂ (λ (x : Bool) (k : ℕ). x || bitIn (getD m k 0) (q % 8)) (same d) (sym a)
-        where
-          same : Dec (q % 8 ≡ p % 8) → eqb (q % 8) (p % 8) ≡ eqb q p
-          same (yes c) = eq-eqb (q % 8) (p % 8) c ∙ sym (eq-eqb q p (omega arith))
-          same (no c) = ne-eqb (q % 8) (p % 8) c ∙ sym (ne-eqb q p (λ z. c (ap (λ (x : ℕ). x % 8) z)))
-      go (no a) d = rw (off-cell (q / 8) a, ne-eqb q p (λ z. a (ap (λ (x : ℕ). x / 8) z)))

@@ -74,10 +74,7 @@ copy-few-requires-2 : tie.Need-copy-few-requires-2
 copy-few-requires-2 c κs = search needs
 
 set-bit-requires : tie.Need-set-bit-requires
-set-bit-requires c κs =
-    let e = c .before .before .before .before .before in
-    let s = e .before .before .before .before .before .before .before in
-    (omega (arith, s .before .before .pre .0 .bits), sym (e .before .bit-at .ensures) ∙ e .if2 .left)
+set-bit-requires c κs = search needs
 
 same-length-4 : tie.Need-same-length-4
 same-length-4 c = search needs
