@@ -1,9 +1,10 @@
 -- Spans whose pixels are all given: a copy of bytes and a range of bits.
+use mathlib.Core.Logic.{_⊎_, inl, inr}
 use mathlib.Core.Path.{_≡_, refl, sym, ap, ap₂, _∙_, subst}
 use Prim.Native.Nat.{ℕ, _+_, _*_, _-_, _/_, _≤_, _<_}
 use native.Mathlib.Nat.{lt-of-not-le, le-div-iff-mul-le, suc-mul}
 use native.Mathlib.Numerals.{add-one}
-use native.Mathlib.Decide.{decLt, ℕ-discrete}
+use native.Mathlib.Decide.{decLt}
 use native.Mathlib.Omega.{arith}
 use mathlib.Core.List.{List}
 use mathlib.Core.Bool.{Bool, true, false, cond, not, _&&_, _||_, true≢false}
@@ -14,10 +15,10 @@ use borrow.Author.Tests.{lt-ltb, le-ltb, le-leb, lt-leb}
 use Rattle.plane.specs.Paint.{bit, mark}
 use Rattle.plane.proofs.Tests.{by-bool}
 use Rattle.plane.proofs.SumLaws.{count-all}
-use Rattle.plane.proofs.PaintLaws.{Bytes, mark-noop, mark-ext}
+use Rattle.plane.proofs.PaintLaws.{Bytes, mark-ext}
 use Rattle.copies.specs.Copied.{copied}
 use Rattle.copies.proofs.Copies.{copied-length, copied-at}
-use Rattle.paint.specs.Row.{validAt, rowGives, SpanPainted, SpanGiven, Open}
+use Rattle.paint.specs.Row.{validAt, givesPixel, rowGives, SpanPainted, SpanGiven, Open}
 use Rattle.paint.proofs.Spans.{Left, span-left, row-length, row-at, below}
 
 -- byte k is at or past pixel i's first byte when its pixel is i or a later one
@@ -71,36 +72,37 @@ module _ (first : ℕ) (s : List ℕ) (b : ℕ) (hb : 1 ≤ b) (masked : Bool) (
 
   -- ---- one pixel, left or given; its first byte is number a
 
-  pub pixel-left : (d m : List ℕ) → Bytes m → (i : ℕ) → Left first s b hb masked line mw x quick m i → SpanPainted d m first s b i (i + 1) masked line mw x quick d m 0
+  left-of : (v s : Bool) → givesPixel quick v s ≡ false → (v ≡ false) ⊎ ((quick ≡ true) × (s ≡ true))
+  left-of false s e = inl refl
+  left-of true s e = inr (cases quick s e)
+    where
+      cases : (q s : Bool) → (not q || not s) ≡ false → (q ≡ true) × (s ≡ true)
+      cases true true e = (refl, refl)
+      cases true false e = absurd (true≢false e)
+      cases false s e = absurd (true≢false e)
+
+  given-of : (v s : Bool) → givesPixel quick v s ≡ true → (v ≡ true) × (quick ≡ true → s ≡ false)
+  given-of false s e = absurd (true≢false (sym e))
+  given-of true s e = (refl, λ k. cases s (rw k at e))
+    where
+      cases : (s : Bool) → not s ≡ true → s ≡ false
+      cases true e = sym e
+      cases false e = refl
+
+  pub pixel-left : (d m : List ℕ) → Bytes m → (i : ℕ) → rowGives quick m first masked line mw x i ≡ false
+      → SpanPainted d m first s b i (i + 1) masked line mw x quick d m 0
   pixel-left d m h i f =
-      span-left first s b hb masked line mw x quick d m h i (i + 1) (λ p l r. subst (λ (n : ℕ). Left first s b hb masked line mw x quick m n) {x = i} {y = p} (omega arith) f)
+      span-left first s b hb masked line mw x quick d m h i (i + 1)
+      (λ p l r. subst (λ (n : ℕ). Left first s b hb masked line mw x quick m n) {x = i} {y = p} (omega arith) (left-of (validAt masked line mw (x + i)) (bit m (first + i)) f))
 
-  module _ (d m : List ℕ) (h : Bytes m) (i a : ℕ) (z : a ≡ i * b) (v : validAt masked line mw (x + i) ≡ true) {d′ : List ℕ} (c : d′ ≡ copied d s a (a + b)) where
-    copied-pixel : d′ ≡ copied d s (i * b) ((i + 1) * b)
-    copied-pixel = c ∙ ap₂ (λ (y e : ℕ). copied d s y e) z (ap (λ (y : ℕ). y + b) z ∙ sym (suc-mul i b) ∙ ap (λ (n : ℕ). n * b) (sym (add-one i)))
-
-    only : (p : ℕ) → i ≤ p → p < i + 1 → validAt masked line mw (x + p) ≡ true
-    only p l r = ap (λ (n : ℕ). validAt masked line mw (x + n)) {x = p} {y = i} (omega arith) ∙ v
-
-    given-one : {m′ : List ℕ} → Open m first i (i + 1) quick → m′ ≡ mark (first + (i + 1)) (λ q. leb (first + i) q) m
-        → SpanPainted d m first s b i (i + 1) masked line mw x quick d′ m′ 1
-    given-one {m′} o e =
-        subst (λ (n : ℕ). SpanPainted d m first s b i (i + 1) masked line mw x quick d′ m′ n) {x = i + 1 - i} {y = 1} (omega arith)
-        (span-all d m i (i + 1) only o (record { target = copied-pixel; map = e }))
-
-    -- over a pixel that is covered
-    pub pixel-over : quick ≡ false → bit m (first + i) ≡ true → SpanPainted d m first s b i (i + 1) masked line mw x quick d′ m 1
-    pixel-over k t =
-        given-one (λ e. absurd (true≢false (sym e ∙ k)))
-        (sym (mark-noop (first + (i + 1)) _ m (λ n _. h n) (λ q l. set q l (ℕ-discrete q (first + i)))))
-      where
-        set : (q : ℕ) → q < first + (i + 1) → Dec (q ≡ first + i) → (leb (first + i) q || bit m q) ≡ bit m q
-        set q l (yes e) = rw (le-leb (first + i) q (omega arith)) (sym (ap (bit m) e ∙ t))
-        set q l (no e) = rw (lt-leb (first + i) q (omega arith))
-
-    -- a pixel that is not
-    pub pixel-new : bit m (first + i) ≡ false → {m′ : List ℕ} → m′ ≡ mark (first + i + 1) (λ q. leb (first + i) q) m
-        → SpanPainted d m first s b i (i + 1) masked line mw x quick d′ m′ 1
-    pixel-new t g =
-        given-one (λ _ p l r. ap (λ (n : ℕ). bit m (first + n)) {x = p} {y = i} (omega arith) ∙ t)
-        (g ∙ ap (λ (n : ℕ). mark n (λ q. leb (first + i) q) m) {x = first + i + 1} {y = first + (i + 1)} (omega arith))
+  pub pixel-given : (d m : List ℕ) (i a : ℕ) → a ≡ i * b → rowGives quick m first masked line mw x i ≡ true → {d′ m′ : List ℕ} → d′ ≡ copied d s a (a + b)
+      → m′ ≡ mark (first + i + 1) (λ q. leb (first + i) q) m → SpanPainted d m first s b i (i + 1) masked line mw x quick d′ m′ 1
+  pixel-given d m i a z f {d′} {m′} c g =
+      subst (λ (n : ℕ). SpanPainted d m first s b i (i + 1) masked line mw x quick d′ m′ n) {x = i + 1 - i} {y = 1} (omega arith)
+      (span-all d m i (i + 1)
+      (λ p l r. ap (λ (n : ℕ). validAt masked line mw (x + n)) {x = p} {y = i} (omega arith) ∙ given-of (validAt masked line mw (x + i)) (bit m (first + i)) f .0)
+      (λ k p l r. ap (λ (n : ℕ). bit m (first + n)) {x = p} {y = i} (omega arith) ∙ given-of (validAt masked line mw (x + i)) (bit m (first + i)) f .1 k)
+      (record {
+        target = c ∙ ap₂ (λ (y e : ℕ). copied d s y e) z (ap (λ (y : ℕ). y + b) z ∙ sym (suc-mul i b) ∙ ap (λ (n : ℕ). n * b) (sym (add-one i)));
+        map = g ∙ ap (λ (n : ℕ). mark n (λ q. leb (first + i) q) m) {x = first + i + 1} {y = first + (i + 1)} (omega arith);
+      }))

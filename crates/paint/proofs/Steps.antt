@@ -35,7 +35,7 @@ open-behind o j e f a c l t p u h = span-behind o p u (omega arith) ∙ f t p (o
 
 module _ (d m : List ℕ) (first : ℕ) (s : List ℕ) (b : ℕ) (hb : 1 ≤ b) (line : List ℕ) (mw x i j : ℕ) where
   -- a run of valid columns, all given
-  pub step-valid : (quick : Bool) → x + j ≤ mw → Open m first i j quick → {v : ℕ} → Run (bit line) (x + i) (x + j) true v → 16 ≤ v - (x + i)
+  pub step-valid : (quick : Bool) → x + j ≤ mw → Open m first i j quick → {v : ℕ} → Run (bit line) (x + i) (x + j) true v → 8 ≤ v - (x + i)
       → {d′ m′ : List ℕ} → SpanGiven d m first s b i (v - x) d′ m′
       → Stepped d m first s b i j true line mw x quick d′ m′ (v - x) (v - x - i)
   step-valid quick w o {v} r l g = record {
@@ -49,7 +49,7 @@ module _ (d m : List ℕ) (first : ℕ) (s : List ℕ) (b : ℕ) (hb : 1 ≤ b) 
   }
 
   -- a run of columns that are not
-  pub step-invalid : (quick : Bool) → Bytes m → {o : ℕ} → Run (bit line) (x + i) (x + j) false o → 16 ≤ o - (x + i)
+  pub step-invalid : (quick : Bool) → Bytes m → {o : ℕ} → Run (bit line) (x + i) (x + j) false o → 8 ≤ o - (x + i)
       → Stepped d m first s b i j true line mw x quick d m (o - x) 0
   step-invalid quick h {o} r l = record {
     on = omega arith;
@@ -60,7 +60,7 @@ module _ (d m : List ℕ) (first : ℕ) (s : List ℕ) (b : ℕ) (hb : 1 ≤ b) 
   }
 
   -- a run of covered pixels, in a quick turn
-  pub step-covered : (masked : Bool) → Bytes m → {o : ℕ} → Run (bit m) (first + i) (first + j) true o → 16 ≤ o - (first + i)
+  pub step-covered : (masked : Bool) → Bytes m → {o : ℕ} → Run (bit m) (first + i) (first + j) true o → 8 ≤ o - (first + i)
       → Stepped d m first s b i j masked line mw x true d m (o - first) 0
   step-covered masked h {o} r l = record {
     on = omega arith;

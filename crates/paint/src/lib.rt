@@ -3,7 +3,8 @@ ghost use mathlib.Core.Path.{_≡_};
 ghost use mathlib.Core.Bool.{true};
 ghost use Prim.Native.Nat.{_+_, _*_, _<_, _≤_, _^_};
 ghost use lib.ListN.{length};
-ghost use Rattle.paint.specs.Row.{RowRoom, RowPainted, SpanRoom, SpanPainted, SpanGiven, Stepped, Open, validAt};
+ghost use Rattle.paint.specs.Row.{RowRoom, RowPainted, SpanRoom, SpanPainted, SpanGiven, Stepped, Open, validAt, givesPixel};
+ghost use Rattle.plane.specs.Paint.{bit};
 
 // The pixel behind a step's last, and how many pixels the step gave.
 pub struct Step {
@@ -27,6 +28,28 @@ fn valid_at(masked: bool, line: &[u8], mw: usize, x: usize) -> bool
     false
 }
 
+// Whether a turn gives the pixel whose map bit is p and whose column in the mask's line is x.
+fn is_given(
+    map: &[u8],
+    p: usize,
+    masked: bool,
+    line: &[u8],
+    mw: usize,
+    x: usize,
+    quick: bool,
+) -> bool
+    requires { ⌜ (p < 8 * length (now map)) × (masked ≡ true → mw ≤ 8 * length (now line)) ⌝ }
+    ensures { λ r. ⌜ r ≡ givesPixel quick (validAt masked (now (line .entry)) mw x) (bit (now (map .entry)) p) ⌝ }
+{
+    if !valid_at(masked, line, mw, x) {
+        return false;
+    }
+    if !quick {
+        return true;
+    }
+    !bits::bit_at(map, p)
+}
+
 // Pixel i of the row, whose first byte is number a. The result is how many pixels it gives, one or none.
 fn paint_pixel(
     dst: &mut [u8],
@@ -45,16 +68,9 @@ fn paint_pixel(
     requires { ⌜ RowRoom (now dst) (now map) first (now src) b (i + 1) masked (now line) mw x × (a ≡ i * b) ⌝ }
     ensures { λ r. ⌜ SpanPainted (now (dst .entry)) (now (map .entry)) first (now (src .entry)) b i (i + 1) masked (now (line .entry)) mw x quick (now (dst .exit)) (now (map .exit)) r ⌝ }
 {
-    if !valid_at(masked, line, mw, x + i) {
-        return 0;
-    }
     let p = first + i;
-    if bits::bit_at(map, p) {
-        if quick {
-            return 0;
-        }
-        copies::copy_few(dst, src, a, a + b);
-        return 1;
+    if !is_given(map, p, masked, line, mw, x + i, quick) {
+        return 0;
     }
     copies::copy_few(dst, src, a, a + b);
     bits::set_bit(map, p);
@@ -134,7 +150,7 @@ fn step_mask(
     let at = x + i;
     let end = x + j;
     let valid = runs::run_end(line, at, end, true);
-    if 16 <= valid - at {
+    if 8 <= valid - at {
         let next = valid - x;
         give_span(dst, map, first, src, b, i, next);
         return Step {
@@ -143,7 +159,7 @@ fn step_mask(
         };
     }
     let other = runs::run_end(line, at, end, false);
-    if 16 <= other - at {
+    if 8 <= other - at {
         return Step {
             next: other - x,
             given: 0,
@@ -241,13 +257,13 @@ fn step_map(
     let at = first + i;
     let end = first + j;
     let uncovered = runs::run_end(map, at, end, false);
-    if 16 <= uncovered - at {
+    if 8 <= uncovered - at {
         let next = uncovered - first;
         let given = paint_open(dst, map, first, src, b, i, next, masked, line, mw, x, true);
         return Step { next, given };
     }
     let covered = runs::run_end(map, at, end, true);
-    if 16 <= covered - at {
+    if 8 <= covered - at {
         return Step {
             next: covered - first,
             given: 0,
