@@ -1,19 +1,28 @@
--- Bytes compared by words: two words are equal just where their bytes are. Assumes nothing.
+-- Stretches of equal bytes, and bytes compared by words: two words are equal just where their bytes are. Assumes nothing.
 use Prim.Native.Nat.{ℕ, zero, suc, _+_, _-_, _*_, _<_}
-use mathlib.Core.Path.{_≡_, refl, sym}
+use mathlib.Core.Path.{_≡_, refl, sym, ap, _∙_, fun-ext}
 use mathlib.Core.List.{List}
 use mathlib.Core.Bool.{Bool, true, false}
 use native.Mathlib.Omega.{arith}
 use native.Mathlib.Nat.{add-zero, zero-add, add-assoc}
 use lib.ListN.{length, getD}
-use lib.Dec.{ltb}
+use lib.Dec.{eqb, ltb}
 use borrow.Author.Tests.{eq-eqb, eqb-true, ltb-true, ltb-false}
-use Rattle.format.specs.Bytes.{u32At, u64At, sameAt}
+use Rattle.format.specs.Bytes.{allBelow, u32At, u64At, sameAt, sameRange}
 use Rattle.format.proofs.Below.{all-intro, all-at}
 
 -- the n bytes at a of s are those at b of t
 abbrev pub Same : ℕ → List ℕ → ℕ → List ℕ → ℕ → Type 0
 Same n s a t b = (i : ℕ) → i < n → getD s (a + i) 0 ≡ getD t (b + i) 0
+
+pub range-bytes : (n : ℕ) (s : List ℕ) (a : ℕ) (t : List ℕ) (b : ℕ) → sameRange n s a t b ≡ true → Same n s a t b
+unfolding sameRange
+range-bytes n s a t b e i h = eqb-true _ _ (all-at n i _ e h)
+
+-- a string stands at p where its whole stretch does
+pub range-at : (s : List ℕ) (p : ℕ) (xs : List ℕ) → sameRange (length xs) s p xs 0 ≡ sameAt s p xs
+unfolding sameAt sameRange
+range-at s p xs = ap (allBelow (length xs)) (fun-ext (λ i. ap (λ (k : ℕ). eqb (getD s (p + i) 0) (getD xs k 0)) (zero-add i)))
 
 -- a stretch from its two halves, and its halves
 module _ (m n : ℕ) (s : List ℕ) (a : ℕ) (t : List ℕ) (b : ℕ) where
@@ -48,6 +57,10 @@ same-u64 s a t b f = rw (same-u32 s a t b (front 4 4 s a t b f), same-u32 s (a +
 
 -- ---- equal words have equal bytes
 
+pub u32-lt : (l : List ℕ) → ((i : ℕ) → getD l i 0 < 256) → (a : ℕ) → u32At l a < 4294967296
+unfolding u32At
+u32-lt l h a = omega (arith, h a, h (a + 1), h (a + 2), h (a + 3))
+
 digits : (w x y z w′ x′ y′ z′ : ℕ) → w < 256 → x < 256 → y < 256 → z < 256 → w′ < 256 → x′ < 256 → y′ < 256 → z′ < 256
     → w + 256 * x + 65536 * y + 16777216 * z ≡ w′ + 256 * x′ + 65536 * y′ + 16777216 * z′ → (w ≡ w′) × (x ≡ x′) × (y ≡ y′) × (z ≡ z′)
 digits w x y z w′ x′ y′ z′ a b c d a′ b′ c′ d′ e = (omega arith, omega arith, omega arith, omega arith)
@@ -64,23 +77,18 @@ module _ (s t : List ℕ) (hs : (i : ℕ) → getD s i 0 < 256) (ht : (i : ℕ) 
       go d (suc (suc (suc zero))) h = d .3
       go d (suc (suc (suc (suc i)))) h = absurd (omega arith)
 
-  small : (l : List ℕ) → ((i : ℕ) → getD l i 0 < 256) → (a : ℕ) → u32At l a < 4294967296
-  unfolding u32At
-  small l h a = omega (arith, h a, h (a + 1), h (a + 2), h (a + 3))
-
-  u64-bytes : (a b : ℕ) → u64At s a ≡ u64At t b → Same 8 s a t b
+  pub u64-bytes : (a b : ℕ) → u64At s a ≡ u64At t b → Same 8 s a t b
   unfolding u64At
   u64-bytes a b e =
-      let low : u32At s a ≡ u32At t b = omega (arith, small s hs a, small t ht b) in
-      let high : u32At s (a + 4) ≡ u32At t (b + 4) = omega (arith, small s hs a, small t ht b) in
+      let low : u32At s a ≡ u32At t b = omega (arith, u32-lt s hs a, u32-lt t ht b) in
+      let high : u32At s (a + 4) ≡ u32At t (b + 4) = omega (arith, u32-lt s hs a, u32-lt t ht b) in
       join 4 4 s a t b (u32-bytes a b low) (u32-bytes (a + 4) (b + 4) high)
 
 -- ---- a name of 16 bytes
 
 module _ (s : List ℕ) (p : ℕ) (name : List ℕ) (size : length name ≡ 16) where
   name-bytes : sameAt s p name ≡ true → Same 16 s p name 0
-  unfolding sameAt
-  name-bytes e i h = rw (zero-add i) (eqb-true _ _ (all-at (length name) i _ e (omega arith)))
+  name-bytes e i h = range-bytes (length name) s p name 0 (range-at s p name ∙ e) i (omega arith)
 
   unlike : (Same 16 s p name 0 → ⊥) → false ≡ sameAt s p name
   unlike h = go (sameAt s p name) refl

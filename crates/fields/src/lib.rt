@@ -1,7 +1,6 @@
 // Reads numbers and byte strings out of a lent slice. The callers have shown that what is read lies in it.
 ghost use mathlib.Core.Path.{_≡_};
 ghost use Prim.Native.Nat.{_+_, _*_, _<_, _≤_, _^_};
-ghost use mathlib.Core.Bool.{not};
 ghost use lib.ListN.{getD, length};
 ghost use lib.Dec.{eqb};
 ghost use lib.Ieee.{ofBits, binary32};
@@ -40,36 +39,7 @@ pub fn u64_at(s: &[u8], p: u64) -> u64
     u32_at(s, p) + 4294967296 * u32_at(s, p + 4)
 }
 
-// Whether the bytes of name stand at p. No byte ends the loop early, so that it is compiled to vectors.
-pub fn same_at(s: &[u8], p: u64, name: &[u8]) -> bool
-    requires { ⌜ p + length (now name) ≤ length (now s) ⌝ }
-    ensures { λ r. ⌜ r ≡ sameAt (now (s .entry)) p (now (name .entry)) ⌝ }
-{
-    let at = p as usize;
-    let mut off: u8 = 0;
-    let mut i: usize = 0;
-    while i < name.len() {
-        off = off | (s[at + i] ^ name[i]);
-        i += 1;
-    }
-    off == 0
-}
-
-// Whether the 16 bytes of name stand at p: they are compared as two words.
-pub fn same_name(s: &[u8], p: u64, name: &[u8]) -> bool
-    requires { ⌜ (p + 16 ≤ length (now s)) × (length (now name) ≡ 16) ⌝ }
-    ensures { λ r. ⌜ r ≡ sameAt (now (s .entry)) p (now (name .entry)) ⌝ }
-{
-    if u64_at(s, p) != u64_at(name, 0) {
-        return false;
-    }
-    if u64_at(s, p + 8) != u64_at(name, 8) {
-        return false;
-    }
-    true
-}
-
-// Whether the n bytes at a of s are those at b of t. No byte ends the loop early here either.
+// Whether the n bytes at a of s are those at b of t. No byte ends the loop early, so that it is compiled to vectors.
 pub fn same_range(n: u64, s: &[u8], a: u64, t: &[u8], b: u64) -> bool
     requires { ⌜ (a + n ≤ length (now s)) × (b + n ≤ length (now t)) ⌝ }
     ensures { λ r. ⌜ r ≡ sameRange n (now (s .entry)) a (now (t .entry)) b ⌝ }
@@ -84,6 +54,28 @@ pub fn same_range(n: u64, s: &[u8], a: u64, t: &[u8], b: u64) -> bool
         i += 1;
     }
     off == 0
+}
+
+// Whether the bytes of name stand at p.
+pub fn same_at(s: &[u8], p: u64, name: &[u8]) -> bool
+    requires { ⌜ p + length (now name) ≤ length (now s) ⌝ }
+    ensures { λ r. ⌜ r ≡ sameAt (now (s .entry)) p (now (name .entry)) ⌝ }
+{
+    same_range(name.len() as u64, s, p, name, 0)
+}
+
+// Whether the 16 bytes of name stand at p: they are compared as two words.
+pub fn same_name(s: &[u8], p: u64, name: &[u8]) -> bool
+    requires { ⌜ (p + 16 ≤ length (now s)) × (length (now name) ≡ 16) ⌝ }
+    ensures { λ r. ⌜ r ≡ sameAt (now (s .entry)) p (now (name .entry)) ⌝ }
+{
+    if u64_at(s, p) != u64_at(name, 0) {
+        return false;
+    }
+    if u64_at(s, p + 8) != u64_at(name, 8) {
+        return false;
+    }
+    true
 }
 
 // The n bytes from p on, as a part of the lent slice.

@@ -1,3 +1,4 @@
+-- `fields::biased_of` meets its contract.
 use native.Mathlib.Omega.{arith}
 use Rattle.format.specs.Bytes.{biased}
 use borrow.Author.Needs.{needs}

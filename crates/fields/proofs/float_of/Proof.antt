@@ -1,9 +1,10 @@
-use Prim.Native.Nat.{ℕ, _%_}
+-- `fields::float_of` meets its contract.
+use Prim.Native.Nat.{_%_}
 use mathlib.Core.Path.{_≡_, refl, sym, _∙_, subst}
 use mathlib.Core.Bool.{Bool, true, false}
 use borrow.Author.Needs.{needs}
 use borrow.Author.Tests.{lt-ltb, le-ltb}
-use lib.Ieee.{Float, nan, inf, fin, binary32, isNan, ofBits, nanBits, div, ofFields, odd}
+use lib.Ieee.{Float, nan, inf, fin, binary32, isNan, ofBits, div, ofFields, odd}
 use lib.Ieee.Bits.{nanBits-above, nanBits-is}
 use Rattle.fields.proofs.float_of.Statement.{statement}
 use Rattle.fields.proofs.float_of.Tie as tie

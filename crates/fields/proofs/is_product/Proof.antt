@@ -1,3 +1,4 @@
+-- `fields::is_product` meets its contract.
 use borrow.Author.Tests.{eq-eqb, ne-eqb}
 use native.Mathlib.Omega.{arith}
 use Rattle.fields.proofs.Products.{below, product-rest, product-whole, product-is}

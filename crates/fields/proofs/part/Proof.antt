@@ -1,3 +1,4 @@
+-- `fields::part` meets its contract.
 use native.Mathlib.Nat.{add-sub-cancel-left}
 use Rattle.format.specs.Bytes.{partOf}
 use borrow.Author.Needs.{needs}

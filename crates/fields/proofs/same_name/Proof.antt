@@ -1,3 +1,4 @@
+-- `fields::same_name` meets its contract.
 use mathlib.Core.Path.{sym, _∙_}
 use native.Mathlib.Omega.{arith}
 use Rattle.fields.proofs.Words.{low-differs, high-differs, words-agree}

@@ -1,3 +1,4 @@
+-- `fields::shifted_of` meets its contract.
 use native.Mathlib.Omega.{arith}
 use mathlib.Core.Path.{refl}
 use mir.Facts.{toZ-ofZ}

@@ -1,3 +1,4 @@
+-- `fields::signed_of` meets its contract.
 use Prim.Native.Nat.{_^_, _<_}
 use mathlib.Core.Path.{_∙_}
 use mir.Facts.{toZ-ofZ}

@@ -1,3 +1,4 @@
+-- `fields::u32_at` meets its contract.
 use native.Mathlib.Omega.{arith}
 use Rattle.format.specs.Bytes.{u32At}
 use borrow.Author.Needs.{needs}

@@ -1,3 +1,4 @@
+-- `fields::u64_at` meets its contract.
 use native.Mathlib.Omega.{arith}
 use Rattle.format.specs.Bytes.{u64At}
 use borrow.Author.Needs.{needs}
