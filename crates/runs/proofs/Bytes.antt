@@ -1,22 +1,22 @@
 -- Runs of bits within a byte, and bytes whose bits are all the same.
-use mathlib.Core.Path.{_≡_, refl, sym, ap, ap₂, _∙_, subst}
+use mathlib.Core.Path.{_≡_, refl, sym, ap, _∙_, subst}
 use Prim.Native.Nat.{ℕ, zero, suc, _+_, _*_, _-_, _/_, _%_, _^_, _≤_, _<_}
-use native.Mathlib.Nat.{div-eq-of-lt, div-eq-of-lt-le, lt-of-lt-of-le, lt-of-not-le, mod-lt, pow-suc}
-use native.Mathlib.Decide.{decLt}
+use native.Mathlib.Nat.{div-eq-of-lt, div-eq-of-lt-le, lt-of-lt-of-le, lt-of-not-le, mod-lt, pow-suc, zero-add}
+use native.Mathlib.Decide.{decLt, ℕ-discrete}
 use native.Mathlib.Omega.{arith}
 use mathlib.Core.List.{List}
-use mathlib.Core.Bool.{Bool, true, false, not, cond}
+use mathlib.Core.Bool.{Bool, true, false, not}
 use lib.Dec.{eqb}
 use lib.Pow.{field, mod-mod-pow, pow-add, pow-mono, pow-pos, shl-shr}
 use lib.Count.{leadingZeros, leading-length}
-use lib.ListN.{length, getD}
-use borrow.Author.Tests.{eqb-true, eqb-false}
+use lib.ListN.{getD, replicate, getD-replicate}
+use borrow.Author.Tests.{eq-eqb, ne-eqb, eqb-true, eqb-false}
 use Rattle.plane.specs.Sums.{one}
 use Rattle.plane.specs.Paint.{bit, bitIn, pack}
-use Rattle.plane.proofs.SumLaws.{one-le}
 use Rattle.plane.proofs.BitLaws.{bit-pack, pack-bits, same-bits}
 use Rattle.plane.proofs.PaintLaws.{Bytes, cell, zero-bits}
 use Rattle.format.specs.Bytes.{u32At, u64At}
+use Rattle.fields.proofs.Words.{u64-bytes}
 use Rattle.runs.specs.Run.{Run, full, fullWord, differing}
 use Rattle.runs.proofs.Runs.{run-empty, run-cut, run-stops, run-on}
 
@@ -38,7 +38,7 @@ not-zero : (b v : Bool) → not b ≡ v → b ≡ not v
 not-zero true v e = ap not e
 not-zero false v e = ap not e
 
-pub run-differing : (x : ℕ) → x < 256 → (v : Bool) (a r : ℕ) → Run (bitIn (differing x v)) a 8 false r → Run (bitIn x) a 8 v r
+run-differing : (x : ℕ) → x < 256 → (v : Bool) (a r : ℕ) → Run (bitIn (differing x v)) a 8 false r → Run (bitIn x) a 8 v r
 run-differing x h false a r o = o
 run-differing x h true a r o = record {
   start = o .start;
@@ -47,14 +47,14 @@ run-differing x h true a r o = record {
   stops = λ l. not-zero (bitIn x r) true (sym (bit-not x h r l) ∙ o .stops l);
 }
 
-pub differing-lt : (x : ℕ) → x < 256 → (v : Bool) → differing x v < 256
+differing-lt : (x : ℕ) → x < 256 → (v : Bool) → differing x v < 256
 differing-lt x h true = omega arith
 differing-lt x h false = h
 
 -- ---- the first one of a byte's last bits
 
 -- the divisor that leaves the bits from number a on
-pub last-bits : (a : ℕ) → a < 8 → 256 / 2 ^ a ≡ 2 ^ (8 - a)
+last-bits : (a : ℕ) → a < 8 → 256 / 2 ^ a ≡ 2 ^ (8 - a)
 last-bits a h = ap (λ (y : ℕ). y / 2 ^ a) (ap (λ (k : ℕ). 2 ^ k) {x = 8} {y = (8 - a) + a} (omega arith) ∙ pow-add 2 (8 - a) a) ∙ shl-shr (2 ^ (8 - a)) a
 
 -- it leaves them as they are
@@ -84,7 +84,7 @@ ones-start z h l =
     (ap (λ (k : ℕ). z / 2 ^ k) e ∙ div-eq-of-lt-le {k = 1} (2 ^ (t .0 - 1)) (omega (arith, t .3, p)) (omega (arith, t .2, p)))
 
 -- the leading zeros of what is left end at the first one from number a on
-pub run-zeros : (y : ℕ) → y < 256 → (a : ℕ) → a < 8 → Run (bitIn y) a 8 false (leadingZeros 8 (y % 2 ^ (8 - a)))
+run-zeros : (y : ℕ) → y < 256 → (a : ℕ) → a < 8 → Run (bitIn y) a 8 false (leadingZeros 8 (y % 2 ^ (8 - a)))
 run-zeros y h a l = record {
   start = begins (decLt (8 - a) (t .0));
   end = omega (arith, t .1);
@@ -110,19 +110,29 @@ run-zeros y h a l = record {
         absurd (omega (arith, p, t .3, under))
     begins (no c) = omega (arith, t .1, lt-of-not-le c)
 
+-- what is left of the bits that differ: its leading zeros end at the first such bit from number a on
+pub rest-pos : (a : ℕ) → a < 8 → 0 < 256 / 2 ^ a
+rest-pos a l = rw (last-bits a l) (pow-pos (8 - a))
+
+pub rest-lt : (y a : ℕ) → a < 8 → y % (256 / 2 ^ a) < 256
+rest-lt y a l = rw (last-bits a l) (lt-of-lt-of-le (mod-lt y (pow-pos (8 - a))) (pow-mono {i = 8 - a} {j = 8} (omega arith)))
+
+pub run-rest : (x : ℕ) → x < 256 → (v : Bool) (a : ℕ) → a < 8 → (y : ℕ) → y ≡ differing x v → Run (bitIn x) a 8 v (leadingZeros 8 (y % (256 / 2 ^ a)))
+run-rest x h v a l y e = rw (last-bits a l, e) (run-differing x h v a _ (run-zeros (differing x v) (differing-lt x h v) a l))
+
 -- ---- bytes whose bits are all v
 
-pub full-bits : (v : Bool) (i : ℕ) → i < 8 → bitIn (full v) i ≡ v
+full-bits : (v : Bool) (i : ℕ) → i < 8 → bitIn (full v) i ≡ v
 unfolding pack
 full-bits true i h = bit-pack (λ _. true) i h
 full-bits false i h = zero-bits i
 
-pub full-lt : (v : Bool) → full v < 256
+full-lt : (v : Bool) → full v < 256
 full-lt true = omega arith
 full-lt false = omega arith
 
 -- a byte that is not such a byte has another bit
-pub not-full : (x : ℕ) → x < 256 → (v : Bool) (r : ℕ) → eqb x (full v) ≡ false → Run (bitIn x) 0 8 v r → r < 8
+not-full : (x : ℕ) → x < 256 → (v : Bool) (r : ℕ) → eqb x (full v) ≡ false → Run (bitIn x) 0 8 v r → r < 8
 not-full x h v r n o = go (decLt r 8)
   where
     go : Dec (r < 8) → r < 8
@@ -130,38 +140,58 @@ not-full x h v r n o = go (decLt r 8)
     go (no l) =
         absurd (eqb-false x (full v) n (same-bits x (full v) h (full-lt v) (λ i c. o .same i (omega arith) (omega (arith, lt-of-not-le l)) ∙ sym (full-bits v i c))))
 
--- the bytes of half a word, and of a word
-half-bytes : (m : List ℕ) → Bytes m → (v : Bool) (k : ℕ) → u32At m k ≡ cond v 4294967295 0 → (d : ℕ) → d < 4 → getD m (k + d) 0 ≡ full v
-unfolding u32At
-half-bytes m h true k e zero l = ap (λ (j : ℕ). getD m j 0) {x = k + 0} {y = k} (omega arith) ∙ omega (arith, h k, h (k + 1), h (k + 2), h (k + 3), e)
-half-bytes m h true k e (suc zero) l = omega (arith, h k, h (k + 1), h (k + 2), h (k + 3), e)
-half-bytes m h true k e (suc (suc zero)) l = omega (arith, h k, h (k + 1), h (k + 2), h (k + 3), e)
-half-bytes m h true k e (suc (suc (suc zero))) l = omega (arith, h k, h (k + 1), h (k + 2), h (k + 3), e)
-half-bytes m h false k e zero l = ap (λ (j : ℕ). getD m j 0) {x = k + 0} {y = k} (omega arith) ∙ omega (arith, e)
-half-bytes m h false k e (suc zero) l = omega (arith, e)
-half-bytes m h false k e (suc (suc zero)) l = omega (arith, e)
-half-bytes m h false k e (suc (suc (suc zero))) l = omega (arith, e)
-half-bytes m h v k e (suc (suc (suc (suc d)))) l = absurd (omega arith)
+-- eight such bytes are such a word, and so it has no others
+full-bytes : (n : ℕ) (v : Bool) → Bytes (replicate n (full v))
+full-bytes zero v i = omega arith
+full-bytes (suc n) v zero = full-lt v
+full-bytes (suc n) v (suc i) = full-bytes n v i
 
-half-lt : (m : List ℕ) → Bytes m → (k : ℕ) → u32At m k < 4294967296
-unfolding u32At
-half-lt m h k = omega (arith, h k, h (k + 1), h (k + 2), h (k + 3))
+full-word : (v : Bool) → u64At (replicate 8 (full v)) 0 ≡ fullWord v
+unfolding u32At u64At
+full-word true = refl
+full-word false = refl
 
-halves : (v : Bool) (x y : ℕ) → x < 4294967296 → y < 4294967296 → x + 4294967296 * y ≡ fullWord v → (x ≡ cond v 4294967295 0) × (y ≡ cond v 4294967295 0)
-halves true x y h l e = (omega arith, omega arith)
-halves false x y h l e = (omega arith, omega arith)
+word-bytes : (m : List ℕ) → Bytes m → (v : Bool) (k : ℕ) → u64At m k ≡ fullWord v → (i : ℕ) → k ≤ i → i < k + 8 → getD m i 0 ≡ full v
+word-bytes m h v k e i a b =
+    ap (λ (j : ℕ). getD m j 0) {x = i} {y = k + (i - k)} (omega arith)
+    ∙ u64-bytes m (replicate 8 (full v)) h (full-bytes 8 v) k 0 (e ∙ sym (full-word v)) (i - k) (omega arith)
+    ∙ ap (λ (j : ℕ). getD (replicate 8 (full v)) j 0) (zero-add (i - k))
+    ∙ getD-replicate 8 (i - k) (full v) 0 (omega arith)
 
-pub word-bytes : (m : List ℕ) → Bytes m → (v : Bool) (k : ℕ) → u64At m k ≡ fullWord v → (i : ℕ) → k ≤ i → i < k + 8 → getD m i 0 ≡ full v
-unfolding u64At
-word-bytes m h v k e i a b = go (decLt i (k + 4))
+-- ---- a loop over such bytes
+
+-- those from byte k on and before i are such bytes
+abbrev pub Full : List ℕ → Bool → ℕ → ℕ → Type 0
+Full m v k i = (j : ℕ) → k ≤ j → j < i → getD m j 0 ≡ full v
+
+pub full-none : (m : List ℕ) (v : Bool) (k : ℕ) → Full m v k k
+full-none m v k j a b = absurd (omega arith)
+
+-- and then eight, or one
+pub full-word-more : (m : List ℕ) → Bytes m → (v : Bool) (k i : ℕ) → Full m v k i → u64At m i ≡ fullWord v → Full m v k (i + 8)
+full-word-more m h v k i f e j a b = go (decLt j i)
   where
-    both : (u32At m k ≡ cond v 4294967295 0) × (u32At m (k + 4) ≡ cond v 4294967295 0)
-    both = halves v (u32At m k) (u32At m (k + 4)) (half-lt m h k) (half-lt m h (k + 4)) e
+    go : Dec (j < i) → getD m j 0 ≡ full v
+    go (yes l) = f j a l
+    go (no l) = word-bytes m h v i e j (omega (arith, lt-of-not-le l)) b
 
-    go : Dec (i < k + 4) → getD m i 0 ≡ full v
-    go (yes c) = ap (λ (j : ℕ). getD m j 0) {x = i} {y = k + (i - k)} (omega arith) ∙ half-bytes m h v k (both .0) (i - k) (omega arith)
-    go (no c) =
-        ap (λ (j : ℕ). getD m j 0) {x = i} {y = k + 4 + (i - (k + 4))} (omega (arith, lt-of-not-le c)) ∙ half-bytes m h v (k + 4) (both .1) (i - (k + 4)) (omega (arith, lt-of-not-le c))
+pub full-byte-more : (m : List ℕ) (v : Bool) (k i : ℕ) → Full m v k i → getD m i 0 ≡ full v → Full m v k (i + 1)
+full-byte-more m v k i f e j a b = go (ℕ-discrete j i)
+  where
+    go : Dec (j ≡ i) → getD m j 0 ≡ full v
+    go (yes z) = ap (λ (n : ℕ). getD m n 0) z ∙ e
+    go (no n) = f j a (omega (arith, n))
+
+-- their run ends at another byte, or at the end
+module _ (m : List ℕ) (v : Bool) (k e i : ℕ) (a : k ≤ i) (b : i ≤ e) (f : Full m v k i) where
+  each : (j : ℕ) → k ≤ j → j < i → eqb (getD m j 0) (full v) ≡ true
+  each j h l = eq-eqb (getD m j 0) (full v) (f j h l)
+
+  pub full-stop : (getD m i 0 ≡ full v → ⊥) → Run (λ j. eqb (getD m j 0) (full v)) k e true i
+  full-stop n = record { start = a; end = b; same = each; stops = λ _. ne-eqb (getD m i 0) (full v) n }
+
+  pub full-end : e ≤ i → Run (λ j. eqb (getD m j 0) (full v)) k e true i
+  full-end l = record { start = a; end = b; same = each; stops = λ h. absurd (omega arith) }
 
 -- ---- from bytes to the map's bits
 
@@ -177,7 +207,7 @@ run-at m k a s v r e o = record {
 }
 
 -- bytes that are full
-pub bytes-run : (m : List ℕ) (k j : ℕ) (v : Bool) → ((i : ℕ) → k ≤ i → i < j → eqb (getD m i 0) (full v) ≡ true) → (p : ℕ) → 8 * k ≤ p → p < 8 * j → bit m p ≡ v
+bytes-run : (m : List ℕ) (k j : ℕ) (v : Bool) → ((i : ℕ) → k ≤ i → i < j → eqb (getD m i 0) (full v) ≡ true) → (p : ℕ) → 8 * k ≤ p → p < 8 * j → bit m p ≡ v
 unfolding bit
 bytes-run m k j v h p a b =
     ap (λ (x : ℕ). bitIn x (p % 8)) (eqb-true (getD m (p / 8) 0) (full v) (h (p / 8) (omega arith) (omega arith))) ∙ full-bits v (p % 8) (omega arith)

@@ -1,2 +1,3 @@
+-- Laws of runs, and of runs of bits in bytes.
 pub mod Runs
 pub mod Bytes

@@ -1,4 +1,4 @@
--- Laws of a run: there is one, it may be cut short, and it goes on behind values that are all the same.
+-- Laws of a run: its end is one, it may be cut short, and it goes on behind values that are all the same.
 use mathlib.Core.Path.{_≡_, sym, _∙_}
 use Prim.Native.Nat.{ℕ, _≤_, _<_}
 use native.Mathlib.Nat.{lt-of-not-le}
@@ -11,7 +11,7 @@ not-not-same : (v : Bool) → v ≡ not v → ⊥
 not-not-same true e = true≢false e
 not-not-same false e = true≢false (sym e)
 
--- two runs from the same number to the same end have the same length
+-- the end of a run is one
 pub run-only : {f : ℕ → Bool} {a e : ℕ} {v : Bool} {r r′ : ℕ} → Run f a e v r → Run f a e v r′ → r ≡ r′
 run-only {f} {a} {e} {v} {r} {r′} x y = go (decLt r r′) (decLt r′ r)
   where

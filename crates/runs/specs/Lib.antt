@@ -1,1 +1,2 @@
+-- What a run is.
 pub mod Run

@@ -1,23 +1,13 @@
 -- `runs::pass_bytes` meets its contract.
-use mathlib.Core.Path.{_≡_, sym, ap, _∙_}
-use mathlib.Core.Bool.{true, false}
-use Prim.Native.Nat.{ℕ, _-_, _≤_, _<_}
-use native.Mathlib.Decide.{ℕ-discrete}
+use mathlib.Core.Path.{sym, _∙_}
+use Prim.Native.Nat.{_-_, _≤_}
 use native.Mathlib.Omega.{arith}
-use lib.Dec.{eqb}
-use lib.ListN.{getD}
-use borrow.Author.Tests.{eq-eqb, ne-eqb}
-use Rattle.runs.specs.Run.{Run, full}
+use Rattle.runs.proofs.Bytes.{Full, full-byte-more, full-stop, full-end}
 use Rattle.runs.proofs.pass_bytes.Statement.{statement}
 use Rattle.runs.proofs.pass_bytes.Tie as tie
 
--- of bytes before the last, and of the last
-last : {P : Type 0} {i j : ℕ} → Dec (j ≡ i) → ((j ≡ i → ⊥) → P) → (j ≡ i → P) → P
-last (yes z) f g = g z
-last (no n) f g = f n
-
 abbrev Inv-loop : tie.InvT-loop
-Inv-loop m k e v byte i₀ i = (k ≤ i) × (i ≤ e) × ((j : ℕ) → k ≤ j → j < i → getD m j 0 ≡ full v)
+Inv-loop m k e v byte i₀ i = (k ≤ i) × (i ≤ e) × Full m v k i
 
 abbrev μ-loop : tie.MeasureT-loop
 μ-loop m k e v byte i₀ i = e - i
@@ -38,12 +28,7 @@ returns : tie.Need-returns Inv-loop μ-loop
 returns c =
     let l = c .before .before .before in
     let a = l .before .before .before .before .args in
-    record {
-      start = l .loop .inv .0;
-      end = l .loop .inv .1;
-      same = λ j h b. eq-eqb (getD (a .m .now) j 0) (full (a .v)) (l .loop .inv .2 j h b);
-      stops = λ h. ne-eqb (getD (a .m .now) (l .loop .i) 0) (full (a .v)) (λ z. c .if1 .taken (z ∙ sym (l .before .before .full-byte .ensures)));
-    }
+    full-stop (a .m .now) (a .v) _ _ _ (l .loop .inv .0) (l .loop .inv .1) (l .loop .inv .2) (λ z. c .if1 .taken (z ∙ sym (l .before .before .full-byte .ensures)))
 
 add-i : tie.Need-add-i Inv-loop μ-loop
 add-i c = omega arith
@@ -54,24 +39,14 @@ loop-less c = omega arith
 loop-again : tie.Need-loop-again Inv-loop μ-loop
 loop-again c =
     let l = c .before .before .before in
-    let a = l .before .before .before .before .args in (
-      omega arith,
-      omega arith,
-      λ j h b.
-          last (ℕ-discrete j (l .loop .i)) (λ n. l .loop .inv .2 j h (omega (arith, n)))
-          (λ z. ap (λ (n : ℕ). getD (a .m .now) n 0) z ∙ c .if1 .left ∙ l .before .before .full-byte .ensures),
-    )
+    let a = l .before .before .before .before .args in
+    (omega arith, omega arith, full-byte-more (a .m .now) (a .v) _ _ (l .loop .inv .2) (c .if1 .left ∙ l .before .before .full-byte .ensures))
 
 returns-2 : tie.Need-returns-2 Inv-loop μ-loop
 returns-2 c =
     let l = c .before in
     let a = l .before .before .before .before .args in
-    record {
-      start = l .loop .inv .0;
-      end = l .loop .inv .1;
-      same = λ j h b. eq-eqb (getD (a .m .now) j 0) (full (a .v)) (l .loop .inv .2 j h b);
-      stops = λ h. absurd (omega arith);
-    }
+    full-end (a .m .now) (a .v) _ _ _ (l .loop .inv .0) (l .loop .inv .1) (l .loop .inv .2) (omega arith)
 
 pub pass-bytes-spec : {M : Type 1} → statement M
 pass-bytes-spec =

@@ -1,22 +1,13 @@
 -- `runs::pass_words` meets its contract.
-use mathlib.Core.Path.{_≡_, sym, _∙_}
-use Prim.Native.Nat.{ℕ, _-_, _≤_, _<_}
-use native.Mathlib.Nat.{lt-of-not-le}
-use native.Mathlib.Decide.{decLt}
+use mathlib.Core.Path.{sym, _∙_}
+use Prim.Native.Nat.{_-_, _≤_}
 use native.Mathlib.Omega.{arith}
-use lib.ListN.{getD}
-use Rattle.runs.specs.Run.{full}
-use Rattle.runs.proofs.Bytes.{word-bytes}
+use Rattle.runs.proofs.Bytes.{Full, full-none, full-word-more}
 use Rattle.runs.proofs.pass_words.Statement.{statement}
 use Rattle.runs.proofs.pass_words.Tie as tie
 
--- of bytes before i, and from there on
-more : {P : Type 0} {i j : ℕ} → Dec (j < i) → (j < i → P) → (i ≤ j → P) → P
-more (yes l) f g = f l
-more (no l) f g = g (omega (arith, lt-of-not-le l))
-
 abbrev Inv-loop : tie.InvT-loop
-Inv-loop m k e v word i₀ i = (k ≤ i) × (i ≤ e) × ((j : ℕ) → k ≤ j → j < i → getD m j 0 ≡ full v)
+Inv-loop m k e v word i₀ i = (k ≤ i) × (i ≤ e) × Full m v k i
 
 abbrev μ-loop : tie.MeasureT-loop
 μ-loop m k e v word i₀ i = e - i
@@ -25,7 +16,7 @@ full-word-requires : tie.Need-full-word-requires Inv-loop μ-loop
 full-word-requires c κs = tt
 
 loop-holds : tie.Need-loop-holds Inv-loop μ-loop
-loop-holds c = (omega arith, omega arith, λ j a b. absurd (omega arith))
+loop-holds c = let a = c .before .before .args in (omega arith, omega arith, full-none (a .m .now) (a .v) _)
 
 sub-loop : tie.Need-sub-loop Inv-loop μ-loop
 sub-loop c = omega arith
@@ -49,9 +40,8 @@ loop-again c =
     let a = s .before .args in (
       omega arith,
       omega arith,
-      λ j h b.
-          more (decLt j (l .loop .i)) (l .loop .inv .2 j h)
-          (λ g. word-bytes (a .m .now) (λ n. omega (arith, s .shared-slice-known .given n)) (a .v) (l .loop .i) (sym (c .before .u64-at .ensures) ∙ c .if1 .left ∙ l .before .full-word .ensures) j g b),
+      full-word-more _ (λ n. omega (arith, s .shared-slice-known .given n)) (a .v) _ _ (l .loop .inv .2)
+          (sym (c .before .u64-at .ensures) ∙ c .if1 .left ∙ l .before .full-word .ensures),
     )
 
 returns-2 : tie.Need-returns-2 Inv-loop μ-loop
