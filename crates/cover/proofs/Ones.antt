@@ -18,7 +18,7 @@ unfolding Count.ones
 no-ones = refl
 
 -- the first r bits of a byte are those of what a shift by the others leaves
-pub high-ones : (x : ℕ) → x < 256 → (r : ℕ) → r ≤ 8 → count r (bitIn x) ≡ Count.ones (x / 2 ^ (8 - r))
+high-ones : (x : ℕ) → x < 256 → (r : ℕ) → r ≤ 8 → count r (bitIn x) ≡ Count.ones (x / 2 ^ (8 - r))
 unfolding sum bitIn
 high-ones x h zero l = sym (ap Count.ones (div-eq-of-lt h) ∙ no-ones)
 high-ones x h (suc r) l =
@@ -31,11 +31,11 @@ high-ones x h (suc r) l =
     half : x / 2 ^ (7 - r) / 2 ≡ x / 2 ^ (8 - r)
     half = div-div-eq-div-mul x (2 ^ (7 - r)) 2 ∙ ap (λ (z : ℕ). x / z) (sym (pow-suc 2 (7 - r))) ∙ ap (λ (z : ℕ). x / 2 ^ z) (omega arith)
 
-pub byte-ones : (x : ℕ) → x < 256 → count 8 (bitIn x) ≡ Count.ones x
+byte-ones : (x : ℕ) → x < 256 → count 8 (bitIn x) ≡ Count.ones x
 byte-ones x h = high-ones x h 8 (omega arith) ∙ ap Count.ones (div-one x)
 
 -- r bits more, of byte k
-pub ones-more : (m : List ℕ) (k r : ℕ) → r ≤ 8 → ones (8 * k + r) m ≡ ones (8 * k) m + count r (bitIn (getD m k 0))
+ones-more : (m : List ℕ) (k r : ℕ) → r ≤ 8 → ones (8 * k + r) m ≡ ones (8 * k) m + count r (bitIn (getD m k 0))
 ones-more m k r l = sum-add (8 * k) r _ ∙ ap (λ (z : ℕ). ones (8 * k) m + z) (sum-ext r _ _ (λ i h. ap one (sym (cell k i (omega arith) m))))
 
 -- byte k, up to bit number n
@@ -44,8 +44,8 @@ next-byte m h k n e =
     ap (λ (z : ℕ). ones (8 * k) m + z) (sym (byte-ones (getD m k 0) (h k))) ∙ sym (ones-more m k 8 (omega arith)) ∙ ap (λ (z : ℕ). ones z m) (omega arith)
 
 -- the high bits of the last byte, where n bits end within it
-pub last-bits : (m : List ℕ) → Bytes m → (n : ℕ) → ones (8 * (n / 8)) m + Count.ones (getD m (n / 8) 0 / 2 ^ (8 - n % 8)) ≡ ones n m
-last-bits m h n =
+pub last-ones : (m : List ℕ) → Bytes m → (n : ℕ) → ones (8 * (n / 8)) m + Count.ones (getD m (n / 8) 0 / 2 ^ (8 - n % 8)) ≡ ones n m
+last-ones m h n =
     ap (λ (z : ℕ). ones (8 * (n / 8)) m + z) (sym (high-ones (getD m (n / 8) 0) (h (n / 8)) (n % 8) (omega arith)))
     ∙ sym (ones-more m (n / 8) (n % 8) (omega arith))
     ∙ ap (λ (z : ℕ). ones z m) (omega arith)

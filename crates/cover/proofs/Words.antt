@@ -8,6 +8,7 @@ use lib.Count as Count
 use lib.Count.{ones-cat}
 use lib.ListN.{getD}
 use Rattle.format.specs.Bytes.{u32At, u64At}
+use Rattle.fields.proofs.Words.{u32-lt}
 use Rattle.plane.specs.Paint.{ones}
 use Rattle.plane.proofs.PaintLaws.{Bytes}
 use Rattle.cover.proofs.Ones.{next-byte}
@@ -39,13 +40,13 @@ module _ (m : List ℕ) (h : Bytes m) where
 
   -- word k
   pub next-word : (k : ℕ) → ones (64 * k) m + Count.ones (u64At m (8 * k)) ≡ ones (64 * (k + 1)) m
-  unfolding u32At u64At
+  unfolding u64At
   next-word k =
       let p = 8 * k in
       let start : ones (64 * k) m ≡ ones (8 * p) m = ap (λ (n : ℕ). ones n m) (omega arith) in
       omega (
         arith,
-        low 32 (u32At m p) (u32At m (p + 4)) (omega (arith, h p, h (p + 1), h (p + 2), h (p + 3))),
+        low 32 (u32At m p) (u32At m (p + 4)) (u32-lt m h p),
         next-half p (8 * (p + 4)) (omega arith),
         next-half (p + 4) (64 * (k + 1)) (omega arith),
       )

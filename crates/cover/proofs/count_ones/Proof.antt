@@ -6,7 +6,7 @@ use lib.ListN.{getD}
 use native.Mathlib.Omega.{arith}
 use borrow.Author.Needs.{needs}
 use Rattle.plane.specs.Paint.{ones}
-use Rattle.cover.proofs.Ones.{last-bits, ones-bound}
+use Rattle.cover.proofs.Ones.{last-ones, ones-bound}
 use Rattle.cover.proofs.count_ones.Statement.{statement}
 use Rattle.cover.proofs.count_ones.Tie as tie
 
@@ -36,7 +36,7 @@ last : (c : tie.After-shared-slice-known2)
 last c =
     let b = c .before .before in
     let a = b .before .before .args in
-    omega (arith, b .count-bytes .ensures, last-bits (a .map .now) (λ k. omega (arith, c .shared-slice-known2 .given k)) (a .n))
+    omega (arith, b .count-bytes .ensures, last-ones (a .map .now) (λ k. omega (arith, c .shared-slice-known2 .given k)) (a .n))
 
 cast-result-2 : tie.Need-cast-result-2
 cast-result-2 c = let a = c .before .before .before .before .args in omega (arith, last c, ones-bound (a .n) (a .map .now))
