@@ -171,7 +171,7 @@ fn judge_body(
     ensures { λ r. ⌜ Answered (now (s .entry)) (tileRows (now (s .entry)) e ++ (subBlockRows (now (s .entry)) e (now (s .entry)) (filePosition (now (s .entry)) e) ++ attachmentRows (now (s .entry)) e (now (s .entry)) (filePosition (now (s .entry)) e))) (now (judged .exit)) r ⌝ }
 {
     let q = fields::u64_at(s, e + 6);
-    let k = segments::number_as(s, table, count, q, b"ZISRAWSUBBLOCK\0\0");
+    let k = segments::index_as(s, table, count, q, b"ZISRAWSUBBLOCK\0\0");
     let v = judge_tile(s, e, k < count);
     match v {
         Verdict::Refused { number, place } => Verdict::Refused { number, place },

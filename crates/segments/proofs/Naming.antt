@@ -1,4 +1,4 @@
--- The number of the walked segment that a position names, by the number of the position in the walk. Assumes nothing.
+-- The index of the walked segment that a position names, by the index of the position in the walk. Assumes nothing.
 use Prim.Native.Nat.{ℕ, _<_}
 use mathlib.Core.Path.{_≡_, refl, sym, ap, _∙_}
 use mathlib.Core.List.{List}
@@ -11,59 +11,59 @@ use borrow.Author.Tests.{lt-ltb, le-ltb}
 use Rattle.format.specs.Bytes.{sameAt}
 use Rattle.format.specs.Segments.{walked, member, walkedAs}
 use Rattle.format.proofs.Below.{and-both}
-use Rattle.segments.specs.Walk.{Filled, numberIn, numberAs}
-use Rattle.segments.proofs.Search.{number-member, member-number}
+use Rattle.segments.specs.Walk.{Filled, indexIn, indexAs}
+use Rattle.segments.proofs.Search.{index-member, member-index}
 
 pub count-is : (bs table : List ℕ) (count : ℕ) → Filled bs table count → count ≡ length (walked bs)
 count-is bs table count f = sym (length-take-le count table (omega (arith, f .few, f .size))) ∙ ap length (f .holds)
 
--- ---- k is the number of q in the table
+-- ---- k is the index of q in the table
 
-module _ (bs table : List ℕ) (count q : ℕ) (name : List ℕ) (f : Filled bs table count) (k : ℕ) (e : k ≡ numberIn q (take count table)) where
-  number-is : k ≡ numberIn q (walked bs)
-  number-is = rw (f .holds) at e
+module _ (bs table : List ℕ) (count q : ℕ) (name : List ℕ) (f : Filled bs table count) (k : ℕ) (e : k ≡ indexIn q (take count table)) where
+  index-is : k ≡ indexIn q (walked bs)
+  index-is = rw (f .holds) at e
 
   pub found : (k ≡ count → ⊥) → member q (walked bs) ≡ true
-  found h = member-number (walked bs) q (λ n. h (number-is ∙ (n ∙ sym (count-is bs table count f))))
+  found h = member-index (walked bs) q (λ n. h (index-is ∙ (n ∙ sym (count-is bs table count f))))
 
-  pub not-found : k ≡ count → count ≡ numberAs bs q name
-  unfolding numberAs
-  not-found h = rw (← number-is, h, ← count-is bs table count f) (go (walkedAs bs q name))
+  pub not-found : k ≡ count → count ≡ indexAs bs q name
+  unfolding indexAs
+  not-found h = rw (← index-is, h, ← count-is bs table count f) (go (walkedAs bs q name))
     where
       go : (b : Bool) → count ≡ cond b count count
       go true = refl
       go false = refl
 
-  pub of-kind : (k ≡ count → ⊥) → sameAt bs q name ≡ true → k ≡ numberAs bs q name
-  unfolding numberAs walkedAs
-  of-kind h s = rw (found h, s) number-is
+  pub of-kind : (k ≡ count → ⊥) → sameAt bs q name ≡ true → k ≡ indexAs bs q name
+  unfolding indexAs walkedAs
+  of-kind h s = rw (found h, s) index-is
 
-  pub of-other : sameAt bs q name ≡ false → count ≡ numberAs bs q name
-  unfolding numberAs walkedAs
+  pub of-other : sameAt bs q name ≡ false → count ≡ indexAs bs q name
+  unfolding indexAs walkedAs
   of-other s = rw (s, and-false (member q (walked bs))) (count-is bs table count f)
 
--- ---- what the number of a named segment tells
+-- ---- what the index of a named segment tells
 
 module _ (bs : List ℕ) (q : ℕ) (name : List ℕ) where
-  -- a segment that is named stands at its number
+  -- a segment that is named stands at its index
   pub record Named : Type 0 where
-    pub below : numberAs bs q name < length (walked bs)
-    pub stands : getD (walked bs) (numberAs bs q name) 0 ≡ q
+    pub below : indexAs bs q name < length (walked bs)
+    pub stands : getD (walked bs) (indexAs bs q name) 0 ≡ q
 
   pub named : walkedAs bs q name ≡ true → Named
-  unfolding numberAs walkedAs
+  unfolding indexAs walkedAs
   named e =
-      let n = number-member (walked bs) q (and-both _ _ e .0) in
+      let n = index-member (walked bs) q (and-both _ _ e .0) in
       record { below = rw e (n .below); stands = rw e (n .stands) }
 
-  unnamed : walkedAs bs q name ≡ false → numberAs bs q name ≡ length (walked bs)
-  unfolding numberAs
+  unnamed : walkedAs bs q name ≡ false → indexAs bs q name ≡ length (walked bs)
+  unfolding indexAs
   unnamed e = rw e
 
-  -- the number tells whether a segment is named
-  pub below-named : ltb (numberAs bs q name) (length (walked bs)) ≡ walkedAs bs q name
+  -- the index tells whether a segment is named
+  pub below-named : ltb (indexAs bs q name) (length (walked bs)) ≡ walkedAs bs q name
   below-named = go (walkedAs bs q name) refl
     where
-      go : (b : Bool) → walkedAs bs q name ≡ b → ltb (numberAs bs q name) (length (walked bs)) ≡ b
+      go : (b : Bool) → walkedAs bs q name ≡ b → ltb (indexAs bs q name) (length (walked bs)) ≡ b
       go true e = lt-ltb _ _ (named e .below)
-      go false e = let n = unnamed e in le-ltb (numberAs bs q name) (length (walked bs)) (omega arith)
+      go false e = let n = unnamed e in le-ltb (indexAs bs q name) (length (walked bs)) (omega arith)

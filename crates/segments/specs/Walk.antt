@@ -1,4 +1,4 @@
--- What a walk answers, the table that it leaves, and the numbers of walked segments in it.
+-- What a walk answers, the table that it leaves, and the index of a walked segment in it.
 use Prim.Native.Nat.{ℕ, _≤_}
 use mathlib.Core.Path.{_≡_}
 use mathlib.Core.List.{List, _++_}
@@ -32,10 +32,10 @@ pub record Filled (bs table : List ℕ) (count : ℕ) : Type 0 where
   pub few : count ≤ 8192
   pub holds : take count table ≡ walked bs
 
--- the number of q in l, counted from 0; the length of l where it is not there
-unfoldable pub numberIn : ℕ → List ℕ → ℕ
-numberIn q l = leastBelow (length l) (λ k. eqb (getD l k 0) q)
+-- the index of q in l; the length of l where it is not there
+unfoldable pub indexIn : ℕ → List ℕ → ℕ
+indexIn q l = leastBelow (length l) (λ k. eqb (getD l k 0) q)
 
--- the number of the walked segment that q names, of the kind that has that name; the number of all where there is none
-unfoldable pub numberAs : List ℕ → ℕ → List ℕ → ℕ
-numberAs bs q name = cond (walkedAs bs q name) (numberIn q (walked bs)) (length (walked bs))
+-- the index of the walked segment that q names, of the kind that has that name; the number of all where there is none
+unfoldable pub indexAs : List ℕ → ℕ → List ℕ → ℕ
+indexAs bs q name = cond (walkedAs bs q name) (indexIn q (walked bs)) (length (walked bs))

@@ -7,7 +7,7 @@ ghost use Rattle.format.specs.Names.{nameFile, nameDirectory, nameSubBlock, nam
 ghost use Rattle.format.specs.Checks.{first};
 ghost use Rattle.format.specs.Segments.{allocatedSize, usedSize, room, lengthBad, nameBad, allocatedBad, usedBad, endBad, sizesBad, roleBad, segmentRows, walkRows, walkedFrom, walked, segmentsRows, walkedAs};
 ghost use Rattle.format.proofs.SegmentLaws.{Rising};
-ghost use Rattle.segments.specs.Walk.{Answered, Filled, Judged, numberIn, numberAs};
+ghost use Rattle.segments.specs.Walk.{Answered, Filled, Judged, indexIn, indexAs};
 use fields::same_name;
 use fields::u64_at;
 use format::Verdict;
@@ -19,7 +19,7 @@ pub struct Walked {
 }
 
 // AllocatedSize of the segment at p.
-pub fn allocated_at(s: &[u8], p: u64) -> u64
+fn allocated_at(s: &[u8], p: u64) -> u64
     requires { ⌜ p + 32 ≤ length (now s) ⌝ }
     ensures { λ r. ⌜ r ≡ allocatedSize (now (s .entry)) p ⌝ }
 {
@@ -226,7 +226,7 @@ fn role_bad(s: &[u8], p: u64) -> bool
 }
 
 // The segment at p: refusals 2, 3, 5.
-pub fn judge_segment(s: &[u8], p: u64) -> Verdict
+fn judge_segment(s: &[u8], p: u64) -> Verdict
     requires { ⌜ p + 32 ≤ length (now s) ⌝ }
     ensures { λ r. ⌜ r ≡ first (segmentRows (now (s .entry)) p) ⌝ }
 {
@@ -316,11 +316,11 @@ pub fn judge_segments(s: &[u8]) -> Walked
     walk(s, &mut table)
 }
 
-// The number of q among the first count positions of the table, which rise; count where it is none of them.
-fn number_in(table: &[u64; 8192], count: usize, q: u64) -> usize
+// The index of q among the first count positions of the table, which rise; count where it is none of them.
+fn index_in(table: &[u64; 8192], count: usize, q: u64) -> usize
     requires { ⌜ (count ≤ 8192) × (length (now table) ≡ 8192) ⌝ }
     requires { ⌜ Rising (take count (now table)) ⌝ }
-    ensures { λ r. ⌜ r ≡ numberIn q (take count (now (table .entry))) ⌝ }
+    ensures { λ r. ⌜ r ≡ indexIn q (take count (now (table .entry))) ⌝ }
 {
     let mut lo: usize = 0;
     let mut hi = count;
@@ -339,13 +339,13 @@ fn number_in(table: &[u64; 8192], count: usize, q: u64) -> usize
     count
 }
 
-// The number of the walked segment that q names, of the kind that has that name, by the table that a walk filled; count where there is none.
-pub fn number_as(s: &[u8], table: &[u64; 8192], count: usize, q: u64, name: &[u8]) -> usize
+// The index of the walked segment that q names, of the kind that has that name, by the table that a walk filled; count where there is none.
+pub fn index_as(s: &[u8], table: &[u64; 8192], count: usize, q: u64, name: &[u8]) -> usize
     requires { ⌜ Filled (now s) (now table) count ⌝ }
     requires { ⌜ length (now name) ≡ 16 ⌝ }
-    ensures { λ r. ⌜ r ≡ numberAs (now (s .entry)) q (now (name .entry)) ⌝ }
+    ensures { λ r. ⌜ r ≡ indexAs (now (s .entry)) q (now (name .entry)) ⌝ }
 {
-    let k = number_in(table, count, q);
+    let k = index_in(table, count, q);
     if k == count {
         return count;
     }
@@ -361,5 +361,5 @@ pub fn walked_as(s: &[u8], table: &[u64; 8192], count: usize, q: u64, name: &[u8
     requires { ⌜ length (now name) ≡ 16 ⌝ }
     ensures { λ r. ⌜ r ≡ walkedAs (now (s .entry)) q (now (name .entry)) ⌝ }
 {
-    number_as(s, table, count, q, name) < count
+    index_as(s, table, count, q, name) < count
 }

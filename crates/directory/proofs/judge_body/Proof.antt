@@ -19,17 +19,17 @@ u64-at-requires : tie.Need-u64-at-requires
 unfolding nextEntry
 u64-at-requires c κs = omega arith
 
-slice-aggregate-number-as : tie.Need-slice-aggregate-number-as
-slice-aggregate-number-as c = search needs
+slice-aggregate-index-as : tie.Need-slice-aggregate-index-as
+slice-aggregate-index-as c = search needs
 
-number-as-requires : tie.Need-number-as-requires
-number-as-requires c κs = search needs
+index-as-requires : tie.Need-index-as-requires
+index-as-requires c κs = search needs
 
 judge-tile-requires : tie.Need-judge-tile-requires
 unfolding filePosition nameSubBlock
 judge-tile-requires c κs =
     let p = c .before .before .before .before .pre in
-    (p .1 .1, named-is _ _ _ _ (c .before .before .u64-at .ensures) (c .number-as .ensures) _ _ (p .0))
+    (p .1 .1, named-is _ _ _ _ (c .before .before .u64-at .ensures) (c .index-as .ensures) _ _ (p .0))
 
 enum-known-v : tie.Need-enum-known-v
 enum-known-v c = search needs
@@ -41,7 +41,7 @@ judge-block-requires : tie.Need-judge-block-requires
 unfolding filePosition nameSubBlock
 judge-block-requires c κs =
     let p = c .before .before .before .before .before .before .before .before .pre in
-    named-block _ _ _ _ (c .before .before .before .before .before .before .u64-at .ensures) (c .before .before .before .before .number-as .ensures) _ (p .1 .0) (p .1 .1 .0) (p .1 .1 .1) (sym (c .before .before .before .judge-tile .ensures) ∙ c .before .enum-told .given .1)
+    named-block _ _ _ _ (c .before .before .before .before .before .before .u64-at .ensures) (c .before .before .before .before .index-as .ensures) _ (p .1 .0) (p .1 .1 .0) (p .1 .1 .1) (sym (c .before .before .before .judge-tile .ensures) ∙ c .before .enum-told .given .1)
 
 returns : tie.Need-returns
 returns c =
@@ -65,8 +65,8 @@ judge-body-spec =
     (tie.spec
     add-u64-at
     u64-at-requires
-    slice-aggregate-number-as
-    number-as-requires
+    slice-aggregate-index-as
+    index-as-requires
     judge-tile-requires
     enum-known-v
     enum-told

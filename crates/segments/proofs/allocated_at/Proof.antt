@@ -1,3 +1,4 @@
+-- `segments::allocated_at` meets its contract.
 use borrow.Author.Needs.{needs}
 use Rattle.format.specs.Segments.{allocatedSize}
 use Rattle.segments.proofs.allocated_at.Statement.{statement}

@@ -1,3 +1,4 @@
+-- `segments::end_bad` meets its contract.
 use Prim.Native.Nat.{_+_, _<_, _≤_}
 use denote.Ref.{now}
 use lib.ListN.{length}

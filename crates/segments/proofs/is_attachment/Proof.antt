@@ -1,3 +1,4 @@
+-- `segments::is_attachment` meets its contract.
 use borrow.Author.Needs.{needs}
 use Rattle.format.specs.Names.{nameAttachment}
 use Rattle.segments.proofs.is_attachment.Statement.{statement}

@@ -1,3 +1,4 @@
+-- `segments::is_attachment_directory` meets its contract.
 use borrow.Author.Needs.{needs}
 use Rattle.format.specs.Names.{nameAttachmentDirectory}
 use Rattle.segments.proofs.is_attachment_directory.Statement.{statement}

@@ -1,3 +1,4 @@
+-- `segments::is_deleted` meets its contract.
 use borrow.Author.Needs.{needs}
 use Rattle.format.specs.Names.{nameDeleted}
 use Rattle.segments.proofs.is_deleted.Statement.{statement}

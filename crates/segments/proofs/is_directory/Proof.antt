@@ -1,3 +1,4 @@
+-- `segments::is_directory` meets its contract.
 use borrow.Author.Needs.{needs}
 use Rattle.format.specs.Names.{nameDirectory}
 use Rattle.segments.proofs.is_directory.Statement.{statement}

@@ -1,3 +1,4 @@
+-- `segments::is_file` meets its contract.
 use borrow.Author.Needs.{needs}
 use Rattle.format.specs.Names.{nameFile}
 use Rattle.segments.proofs.is_file.Statement.{statement}

@@ -1,3 +1,4 @@
+-- `segments::is_metadata` meets its contract.
 use borrow.Author.Needs.{needs}
 use Rattle.format.specs.Names.{nameMetadata}
 use Rattle.segments.proofs.is_metadata.Statement.{statement}

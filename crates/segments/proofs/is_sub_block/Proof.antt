@@ -1,3 +1,4 @@
+-- `segments::is_sub_block` meets its contract.
 use borrow.Author.Needs.{needs}
 use Rattle.format.specs.Names.{nameSubBlock}
 use Rattle.segments.proofs.is_sub_block.Statement.{statement}

@@ -1,3 +1,4 @@
+-- `segments::length_bad` meets its contract.
 use Rattle.format.proofs.Flags.{flags}
 use Rattle.format.specs.Segments.{lengthBad}
 use Rattle.segments.proofs.length_bad.Statement.{statement}

@@ -1,3 +1,4 @@
+-- `segments::name_bad` meets its contract.
 use borrow.Author.Needs.{needs}
 use Rattle.format.specs.Segments.{nameBad}
 use Rattle.segments.proofs.Leaves.{listed}

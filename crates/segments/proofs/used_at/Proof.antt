@@ -1,3 +1,4 @@
+-- `segments::used_at` meets its contract.
 use borrow.Author.Needs.{needs}
 use Rattle.format.specs.Segments.{usedSize}
 use Rattle.segments.proofs.used_at.Statement.{statement}

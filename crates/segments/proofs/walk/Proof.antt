@@ -1,3 +1,4 @@
+-- `segments::walk` meets its contract.
 use mathlib.Core.Path.{refl, sym, _∙_}
 use borrow.Author.Needs.{needs}
 use Rattle.format.specs.Segments.{segmentsRows, walked}

@@ -1,3 +1,4 @@
+-- `segments::walk_segments` meets its contract.
 use Prim.Native.Nat.{_-_, _<_, _≤_}
 use borrow.Author.Needs.{needs}
 use denote.Ref.{now}

@@ -1,3 +1,4 @@
+-- `segments::index_in` meets its contract.
 use Prim.Native.Nat.{_+_, _-_, _/_, _≤_, _<_}
 use native.Mathlib.Omega.{arith}
 use mathlib.Core.Path.{sym, _∙_}
@@ -5,8 +6,8 @@ use lib.ListN.{take}
 use lib.Seq.{getD-take, length-take-le}
 use denote.Ref.{now}
 use Rattle.segments.proofs.Search.{Between, start, up, down, met, done}
-use Rattle.segments.proofs.number_in.Statement.{statement}
-use Rattle.segments.proofs.number_in.Tie as tie
+use Rattle.segments.proofs.index_in.Statement.{statement}
+use Rattle.segments.proofs.index_in.Tie as tie
 
 abbrev Inv-loop : tie.InvT-loop
 Inv-loop table count q lo₀ hi₀ lo hi = (hi ≤ count) × Between (take count table) q lo hi
@@ -67,8 +68,8 @@ returns-2 c =
     let a = c .before .before .args in
     sym (done _ _ _ _ (c .before .loop .inv .1) (c .loop-test .left) ∙ length-take-le (a .count) (now (a .table)) (omega arith))
 
-pub number-in-spec : {M : Type 1} → statement M
-number-in-spec =
+pub index-in-spec : {M : Type 1} → statement M
+index-in-spec =
     tie.close
     (tie.spec
     Inv-loop
