@@ -3,8 +3,9 @@ use Prim.Native.Nat.{ℕ, zero, suc, _+_}
 use mathlib.Core.Path.{_≡_, refl, sym, _∙_}
 use mathlib.Core.List.{List, _++_}
 use mathlib.Core.Bool.{Bool, true, false}
+use native.Mathlib.Omega.{arith}
 use lib.ListN.{getD, set, length-set, replicate, length-replicate}
-use lib.Seq.{getD-set-other}
+use lib.Seq.{getD-set-other, getD-set-same}
 use lib.Dec.{eqb}
 use borrow.Author.Tests.{eqb-true, eqb-false}
 use Rattle.format.specs.Checks.{Check, first}
@@ -14,7 +15,7 @@ use Rattle.format.specs.declared.Verdict.{Verdict}
 use Rattle.format.specs.declared.Verdict.the-variants.{Accepted, Refused}
 use Rattle.subblocks.proofs.OwnCopy.{own-rows}
 use Rattle.directory.proofs.Stages.{then-stop, then-next}
-use Rattle.directory.specs.Marks.{ChunksAccepted, Marked, Fitting, Answered}
+use Rattle.directory.specs.Marks.{ChunksAccepted, Marked, ChunksKnown, AnsweredMarked, ChunksAnswered}
 
 -- ---- no flag is set
 
@@ -28,33 +29,43 @@ none-marked bs = record { size = length-replicate {A = ℕ} 8192 0; right = λ k
 
 -- ---- rows judged after others, with flags that are right
 
-pub answered-stop : (bs flags : List ℕ) (v : Verdict) (a b : List Check) (m p : ℕ) → Marked bs flags → v ≡ first a → v ≡ Refused m p → Answered bs (a ++ b) flags (Refused m p)
+pub answered-stop : (bs flags : List ℕ) (v : Verdict) (a b : List Check) (m p : ℕ) → Marked bs flags → v ≡ first a → v ≡ Refused m p → AnsweredMarked bs (a ++ b) flags (Refused m p)
 answered-stop bs flags v a b m p k e h = record { verdict-is = then-stop v a b m p e h; marked = k }
 
-pub answered-next : (bs flags : List ℕ) (v w : Verdict) (a b : List Check) → v ≡ first a → v ≡ Accepted → Answered bs b flags w → Answered bs (a ++ b) flags w
+pub answered-next : (bs flags : List ℕ) (v w : Verdict) (a b : List Check) → v ≡ first a → v ≡ Accepted → AnsweredMarked bs b flags w → AnsweredMarked bs (a ++ b) flags w
 answered-next bs flags v w a b e h k = record { verdict-is = then-next v w a b e h (k .verdict-is); marked = k .marked }
 
 -- ---- the chunks of the sub-block at q
 
-module _ (bs flags : List ℕ) (k e q : ℕ) (f : Fitting bs flags k e q) where
+module _ (bs flags : List ℕ) (k e q : ℕ) (f : ChunksKnown bs flags k e q) where
   own : attachmentRows bs e bs q ≡ attachmentRows bs (q + 48) bs q
   own = own-rows bs e bs q (f .filled .agreed .block)
 
   -- its flag is set: they were accepted for an entry before this one
-  pub judged-before : (getD flags k 0 ≡ 0 → ⊥) → Answered bs (attachmentRows bs e bs q) flags Accepted
+  pub judged-before : (getD flags k 0 ≡ 0 → ⊥) → ChunksAnswered bs (attachmentRows bs e bs q) flags k Accepted
   unfolding ChunksAccepted
-  judged-before h = record { verdict-is = rw own (sym (rw (f .stands .at) at (f .marked .right k h))); marked = f .marked }
+  judged-before h = record {
+    answered = record { verdict-is = rw own (sym (rw (f .stands .at) at (f .marked .right k h))); marked = f .marked };
+    flagged = λ _. h;
+  }
 
-  -- they are accepted: the flag may be set
+  -- they are refused: no flag is set
+  pub judged-refused : (m p : ℕ) → Refused m p ≡ first (attachmentRows bs e bs q) → ChunksAnswered bs (attachmentRows bs e bs q) flags k (Refused m p)
+  judged-refused m p j = record { answered = record { verdict-is = j; marked = f .marked }; flagged = λ a. let z : _≡_ {A = ℕ} 0 1 = cc in absurd (omega arith) }
+
+  -- they are accepted: the flag is set
   module _ (v : Verdict) (j : v ≡ first (attachmentRows bs e bs q)) (a : v ≡ Accepted) where
     accepted : ChunksAccepted bs (getD (walked bs) k 0)
     unfolding ChunksAccepted
     accepted = rw (f .stands .at, ← own) (sym j ∙ a)
 
-    pub judged-now : Answered bs (attachmentRows bs e bs q) (set flags k 1) Accepted
+    pub judged-now : ChunksAnswered bs (attachmentRows bs e bs q) (set flags k 1) k Accepted
     judged-now = record {
-      verdict-is = sym a ∙ j;
-      marked = record { size = length-set flags k 1 ∙ f .marked .size; right = λ i h. go i (eqb i k) refl h };
+      answered = record {
+        verdict-is = sym a ∙ j;
+        marked = record { size = length-set flags k 1 ∙ f .marked .size; right = λ i h. go i (eqb i k) refl h };
+      };
+      flagged = λ _ z. let one : getD (set flags k 1) k 0 ≡ 1 = getD-set-same flags k 1 0 (omega (arith, f .stands .below, f .marked .size)) in omega arith;
     }
       where
         go : (i : ℕ) (b : Bool) → eqb i k ≡ b → (getD (set flags k 1) i 0 ≡ 0 → ⊥) → ChunksAccepted bs (getD (walked bs) i 0)

@@ -24,7 +24,7 @@ use Rattle.segments.specs.Walk as Walk
 use Rattle.segments.specs.Walk.{indexAs}
 use Rattle.segments.proofs.Naming.{count-is, named, below-named}
 use Rattle.subblocks.specs.Judged.{Placed, Filled}
-use Rattle.directory.specs.Marks.{Marked, Named}
+use Rattle.directory.specs.Marks.{Marked, BlockKnown}
 
 -- ---- the answer v of the first rows decides, or the answer w of the rows behind them
 
@@ -65,9 +65,9 @@ module _ (bs : List ℕ) (e k q : ℕ) (f : q ≡ filePosition bs e) (n : k ≡ 
   pub named-is : (table : List ℕ) (count : ℕ) → Walk.Filled bs table count → ltb k count ≡ walkedAs bs (filePosition bs e) nameSubBlock
   named-is table count h = rw (n, f, count-is bs table count h) (below-named bs (filePosition bs e) nameSubBlock)
 
-  pub named-block : (flags : List ℕ) → Marked bs flags → dimensionCount bs e ≤ 16 → nextEntry bs e ≤ length bs → first (tileRows bs e) ≡ Accepted → Named bs flags k e q
+  pub block-known : (flags : List ℕ) → Marked bs flags → dimensionCount bs e ≤ 16 → nextEntry bs e ≤ length bs → first (tileRows bs e) ≡ Accepted → BlockKnown bs flags k e q
   unfolding tileRows
-  named-block flags m few entry h =
+  block-known flags m few entry h =
       let s = named bs (filePosition bs e) nameSubBlock (not-false _ (passed (tileRows bs e) h 4)) in
       rw (n, f)
       (record {

@@ -25,18 +25,23 @@ pub record Stands (bs : List ℕ) (k q : ℕ) : Type 0 where
   pub at : getD (walked bs) k 0 ≡ q
 
 -- what judging the sub-block of the entry at e may rest on
-pub record Named (bs flags : List ℕ) (k e q : ℕ) : Type 0 where
+pub record BlockKnown (bs flags : List ℕ) (k e q : ℕ) : Type 0 where
   pub placed : Placed bs e bs q
   pub stands : Stands bs k q
   pub marked : Marked bs flags
 
 -- the same for its chunks
-pub record Fitting (bs flags : List ℕ) (k e q : ℕ) : Type 0 where
+pub record ChunksKnown (bs flags : List ℕ) (k e q : ℕ) : Type 0 where
   pub filled : Filled bs e bs q
   pub stands : Stands bs k q
   pub marked : Marked bs flags
 
 -- the answer v to the rows cs, and flags after it that are right
-pub record Answered (bs : List ℕ) (cs : List Check) (flags : List ℕ) (v : Verdict) : Type 0 where
+pub record AnsweredMarked (bs : List ℕ) (cs : List Check) (flags : List ℕ) (v : Verdict) : Type 0 where
   pub verdict-is : v ≡ first cs
   pub marked : Marked bs flags
+
+-- the same to the rows of the chunks of walked segment k: where they are accepted, its flag is set, so that they are not judged again
+pub record ChunksAnswered (bs : List ℕ) (cs : List Check) (flags : List ℕ) (k : ℕ) (v : Verdict) : Type 0 where
+  pub answered : AnsweredMarked bs cs flags v
+  pub flagged : v ≡ Accepted → getD flags k 0 ≡ 0 → ⊥

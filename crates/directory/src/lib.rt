@@ -2,7 +2,7 @@
 use format::Verdict;
 ghost use mathlib.Core.Path.{_≡_};
 ghost use mathlib.Core.List.{_++_};
-ghost use Prim.Native.Nat.{_+_, _*_, _<_, _≤_};
+ghost use Prim.Native.Nat.{_+_, _≤_};
 ghost use lib.ListN.{length};
 ghost use Rattle.format.specs.Checks.{first, rowsBelow};
 ghost use Rattle.format.specs.Names.{nameSubBlock};
@@ -12,7 +12,7 @@ ghost use Rattle.format.specs.Entry.{nextEntry, dimensionCount, filePosition};
 ghost use Rattle.format.specs.Directory.{roomEnd, entryPlace, directoryBad, headRows, tileRows, subBlockRows, attachmentRows, entryRows, directoryRows};
 ghost use Rattle.segments.specs.Walk.{Filled};
 ghost use Rattle.subblocks.specs.Judged.{Placed};
-ghost use Rattle.directory.specs.Marks.{Marked, Named, Fitting, Answered};
+ghost use Rattle.directory.specs.Marks.{Marked, BlockKnown, ChunksKnown, AnsweredMarked, ChunksAnswered};
 
 // The place behind the room of the segment at d.
 fn room_end(s: &[u8], d: u64) -> u64
@@ -129,8 +129,8 @@ fn judge_sub_block(s: &[u8], e: u64, q: u64) -> Verdict
 
 // The chunks of the sub-block at q, walked segment k: 17, 18. They are judged once: for every entry that agrees with the sub-block they are the same.
 fn judge_chunks(s: &[u8], judged: &mut [u8; 8192], k: usize, e: u64, q: u64) -> Verdict
-    requires { ⌜ Fitting (now s) (now judged) k e q ⌝ }
-    ensures { λ r. ⌜ Answered (now (s .entry)) (attachmentRows (now (s .entry)) e (now (s .entry)) q) (now (judged .exit)) r ⌝ }
+    requires { ⌜ ChunksKnown (now s) (now judged) k e q ⌝ }
+    ensures { λ r. ⌜ ChunksAnswered (now (s .entry)) (attachmentRows (now (s .entry)) e (now (s .entry)) q) (now (judged .exit)) k r ⌝ }
 {
     if judged[k] != 0 {
         return Verdict::Accepted;
@@ -147,8 +147,8 @@ fn judge_chunks(s: &[u8], judged: &mut [u8; 8192], k: usize, e: u64, q: u64) -> 
 
 // The sub-block and its attachment's chunks: 15, 16, 17, 18.
 fn judge_block(s: &[u8], judged: &mut [u8; 8192], k: usize, e: u64, q: u64) -> Verdict
-    requires { ⌜ Named (now s) (now judged) k e q ⌝ }
-    ensures { λ r. ⌜ Answered (now (s .entry)) (subBlockRows (now (s .entry)) e (now (s .entry)) q ++ attachmentRows (now (s .entry)) e (now (s .entry)) q) (now (judged .exit)) r ⌝ }
+    requires { ⌜ BlockKnown (now s) (now judged) k e q ⌝ }
+    ensures { λ r. ⌜ AnsweredMarked (now (s .entry)) (subBlockRows (now (s .entry)) e (now (s .entry)) q ++ attachmentRows (now (s .entry)) e (now (s .entry)) q) (now (judged .exit)) r ⌝ }
 {
     let v = judge_sub_block(s, e, q);
     match v {
@@ -168,7 +168,7 @@ fn judge_body(
     requires { ⌜ Filled (now s) (now table) count ⌝ }
     requires { ⌜ Marked (now s) (now judged) ⌝ }
     requires { ⌜ (dimensionCount (now s) e ≤ 16) × (nextEntry (now s) e ≤ length (now s)) ⌝ }
-    ensures { λ r. ⌜ Answered (now (s .entry)) (tileRows (now (s .entry)) e ++ (subBlockRows (now (s .entry)) e (now (s .entry)) (filePosition (now (s .entry)) e) ++ attachmentRows (now (s .entry)) e (now (s .entry)) (filePosition (now (s .entry)) e))) (now (judged .exit)) r ⌝ }
+    ensures { λ r. ⌜ AnsweredMarked (now (s .entry)) (tileRows (now (s .entry)) e ++ (subBlockRows (now (s .entry)) e (now (s .entry)) (filePosition (now (s .entry)) e) ++ attachmentRows (now (s .entry)) e (now (s .entry)) (filePosition (now (s .entry)) e))) (now (judged .exit)) r ⌝ }
 {
     let q = fields::u64_at(s, e + 6);
     let k = segments::index_as(s, table, count, q, b"ZISRAWSUBBLOCK\0\0");
@@ -192,7 +192,7 @@ fn judge_entry(
     requires { ⌜ Marked (now s) (now judged) ⌝ }
     requires { ⌜ RoomIn (now s) d ⌝ }
     requires { ⌜ e ≤ roomEnd (now s) d ⌝ }
-    ensures { λ r. ⌜ Answered (now (s .entry)) (entryRows (now (s .entry)) d e) (now (judged .exit)) r ⌝ }
+    ensures { λ r. ⌜ AnsweredMarked (now (s .entry)) (entryRows (now (s .entry)) d e) (now (judged .exit)) r ⌝ }
 {
     let v = judge_head(s, d, e);
     match v {

@@ -1,29 +1,24 @@
 -- The copy of the entry that a sub-block holds, where it agrees: the attachment's rows are those by the copy, so they are the same for every entry that agrees.
 -- Assumes nothing.
-use Prim.Native.Nat.{ℕ, _+_, _*_, _<_}
+use Prim.Native.Nat.{ℕ, _+_, _*_}
 use mathlib.Core.Path.{_≡_}
 use mathlib.Core.List.{List}
-use mathlib.Core.Bool.{true, false}
+use mathlib.Core.Bool.{false}
 use native.Mathlib.Omega.{arith}
-use lib.ListN.{getD}
-use borrow.Author.Tests.{eqb-true, not-false}
-use Rattle.format.specs.Bytes.{u32At, sameRange}
+use borrow.Author.Tests.{not-false}
+use Rattle.format.specs.Bytes.{u32At}
 use Rattle.format.specs.Entry.{dimensionCount}
 use Rattle.format.specs.SubBlock.{copyBad, subBlockBad, metadataPlace, pixelsPlace, attachmentPlace}
 use Rattle.format.specs.Directory.{attachmentRows}
-use Rattle.format.proofs.Below.{none, all-at}
-use Rattle.fields.proofs.Words.{same-u32}
-
-same-byte : (n : ℕ) (ds : List ℕ) (a : ℕ) (bs : List ℕ) (b : ℕ) → sameRange n ds a bs b ≡ true → (i : ℕ) → i < n → getD ds (a + i) 0 ≡ getD bs (b + i) 0
-unfolding sameRange
-same-byte n ds a bs b e i h = eqb-true _ _ (all-at n i _ e h)
+use Rattle.format.proofs.Below.{none}
+use Rattle.fields.proofs.Words.{range-bytes, same-u32}
 
 module _ (ds : List ℕ) (e : ℕ) (bs : List ℕ) (q : ℕ) (agree : subBlockBad ds e bs q ≡ false) where
   own-count : dimensionCount ds e ≡ dimensionCount bs (q + 48)
   unfolding subBlockBad copyBad dimensionCount
   own-count =
       let at : q + 48 + 28 ≡ q + 76 = omega arith in
-      rw at (same-u32 ds (e + 28) bs (q + 76) (λ i h. same-byte (4 + 20 * u32At ds (e + 28)) ds (e + 28) bs (q + 76) (not-false _ (none _ (none _ agree 1) 1)) i (omega arith)))
+      rw at (same-u32 ds (e + 28) bs (q + 76) (λ i h. range-bytes (4 + 20 * u32At ds (e + 28)) ds (e + 28) bs (q + 76) (not-false _ (none _ (none _ agree 1) 1)) i (omega arith)))
 
   pub own-rows : attachmentRows ds e bs q ≡ attachmentRows bs (q + 48) bs q
   unfolding attachmentRows metadataPlace pixelsPlace attachmentPlace

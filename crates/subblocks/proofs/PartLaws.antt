@@ -1,5 +1,5 @@
 -- Where the parts of a judged sub-block lie: all in its file. Assumes nothing.
-use Prim.Native.Nat.{ℕ, _+_, _*_, _^_, _≤_, _<_}
+use Prim.Native.Nat.{ℕ, _+_, _≤_}
 use mathlib.Core.Path.{_≡_, refl}
 use mathlib.Core.List.{List, []}
 use mathlib.Core.Bool.{Bool, true, false, cond}
@@ -11,7 +11,7 @@ use Rattle.format.specs.declared.Verdict.the-variants.{Accepted}
 use Rattle.format.specs.declared.TileMask.the-variants.{Unmasked}
 use native.Mathlib.Omega.{arith}
 use lib.ListN.{length}
-use borrow.Author.Tests.{ltb-false, leb-false, eqb-true, not-false}
+use borrow.Author.Tests.{ltb-false, eqb-true, not-false}
 use Rattle.format.specs.Segments.{room}
 use Rattle.format.specs.Entry.{dimensionCount, nextEntry}
 use Rattle.format.specs.SubBlock.{metadataSize, attachmentSize, dataSize, fixedPart, subBlockBad, pixelsSize, contentsBad, metadataPlace, pixelsPlace, attachmentPlace}

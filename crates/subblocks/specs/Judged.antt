@@ -10,7 +10,6 @@ use Rattle.format.specs.Segments.{room}
 use Rattle.format.specs.Entry.{pixelType, pixelBytes, dimensionCount, nextEntry, dimensionsBad}
 use Rattle.format.specs.SubBlock.{subBlockBad, contentsBad}
 use Rattle.format.specs.Directory.{attachmentRows}
-use Rattle.format.specs.declared.Verdict.{Verdict}
 use Rattle.format.specs.declared.Verdict.the-variants.{Accepted}
 
 -- the entry lies in its file, is well formed and of a listed pixel type

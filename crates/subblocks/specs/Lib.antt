@@ -1,1 +1,2 @@
+-- What is known of an entry and its sub-block.
 pub mod Judged

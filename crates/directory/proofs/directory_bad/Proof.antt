@@ -1,3 +1,4 @@
+-- `directory::directory_bad` meets its contract.
 use Rattle.format.proofs.Flags.{flags}
 use Rattle.format.specs.Directory.{directoryBad, entryCount}
 use borrow.Author.Needs.{needs}

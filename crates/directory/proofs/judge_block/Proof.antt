@@ -1,3 +1,4 @@
+-- `directory::judge_block` meets its contract.
 use mathlib.Core.Path.{sym, _∙_}
 use denote.Ref.{now}
 use Rattle.format.specs.Directory.{subBlockRows, attachmentRows}
@@ -35,7 +36,7 @@ returns-2 : tie.Need-returns-2
 returns-2 c =
     let a = c .before .before .before .before .before .before .args in
     let bs = now (a .s) in
-    answered-next bs _ _ _ (subBlockRows bs (a .e) bs (a .q)) (attachmentRows bs (a .e) bs (a .q)) (c .before .before .before .before .judge-sub-block .ensures) (c .before .before .enum-told .given .1) (c .judge-chunks .ensures)
+    answered-next bs _ _ _ (subBlockRows bs (a .e) bs (a .q)) (attachmentRows bs (a .e) bs (a .q)) (c .before .before .before .before .judge-sub-block .ensures) (c .before .before .enum-told .given .1) (c .judge-chunks .ensures .answered)
 
 pub judge-block-spec : {M : Type 1} → statement M
 judge-block-spec =

@@ -1,3 +1,4 @@
+-- `directory::judge_body` meets its contract.
 use mathlib.Core.Path.{sym, _∙_}
 use mathlib.Core.List.{_++_}
 use native.Mathlib.Omega.{arith}
@@ -5,7 +6,7 @@ use denote.Ref.{now}
 use Rattle.format.specs.Names.{nameSubBlock}
 use Rattle.format.specs.Entry.{nextEntry, filePosition}
 use Rattle.format.specs.Directory.{tileRows, subBlockRows, attachmentRows}
-use Rattle.directory.proofs.Stages.{named-is, named-block}
+use Rattle.directory.proofs.Stages.{named-is, block-known}
 use Rattle.directory.proofs.Marking.{answered-stop, answered-next}
 use borrow.Author.Needs.{needs}
 use Rattle.directory.proofs.judge_body.Statement.{statement}
@@ -41,7 +42,7 @@ judge-block-requires : tie.Need-judge-block-requires
 unfolding filePosition nameSubBlock
 judge-block-requires c κs =
     let p = c .before .before .before .before .before .before .before .before .pre in
-    named-block _ _ _ _ (c .before .before .before .before .before .before .u64-at .ensures) (c .before .before .before .before .index-as .ensures) _ (p .1 .0) (p .1 .1 .0) (p .1 .1 .1) (sym (c .before .before .before .judge-tile .ensures) ∙ c .before .enum-told .given .1)
+    block-known _ _ _ _ (c .before .before .before .before .before .before .u64-at .ensures) (c .before .before .before .before .index-as .ensures) _ (p .1 .0) (p .1 .1 .0) (p .1 .1 .1) (sym (c .before .before .before .judge-tile .ensures) ∙ c .before .enum-told .given .1)
 
 returns : tie.Need-returns
 returns c =

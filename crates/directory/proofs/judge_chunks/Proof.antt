@@ -1,5 +1,6 @@
+-- `directory::judge_chunks` meets its contract.
 use mathlib.Core.Path.{sym, _∙_}
-use Rattle.directory.proofs.Marking.{judged-before, judged-now}
+use Rattle.directory.proofs.Marking.{judged-before, judged-refused, judged-now}
 use borrow.Author.Needs.{needs}
 use Rattle.directory.proofs.judge_chunks.Statement.{statement}
 use Rattle.directory.proofs.judge_chunks.Tie as tie
@@ -23,7 +24,7 @@ element-write-judged : tie.Need-element-write-judged
 element-write-judged c = search needs
 
 returns-2 : tie.Need-returns-2
-returns-2 c = record { verdict-is = sym (c .before .v .given .1) ∙ c .before .before .before .judge-attachment .ensures; marked = c .before .before .before .before .before .before .before .pre .marked }
+returns-2 c = judged-refused _ _ _ _ _ (c .before .before .before .before .before .before .before .pre) _ _ (sym (c .before .v .given .1) ∙ c .before .before .before .judge-attachment .ensures)
 
 returns-3 : tie.Need-returns-3
 returns-3 c = judged-now _ _ _ _ _ (c .before .before .before .before .before .before .pre) _ (c .before .before .judge-attachment .ensures) (c .enum-told .given .1)

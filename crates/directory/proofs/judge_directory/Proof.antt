@@ -1,11 +1,12 @@
+-- `directory::judge_directory` meets its contract.
 use denote.Ref.{now}
 use Rattle.format.specs.Segments.{RoomIn}
 use Rattle.format.proofs.Flags.{cond-true, cond-false, is-true, is-false}
 use Rattle.directory.proofs.Stages.{first-entry}
-use mathlib.Core.Path.{_≡_, refl, sym, ap, _∙_}
+use mathlib.Core.Path.{refl, sym, _∙_}
 use native.Mathlib.Omega.{arith}
 use Rattle.format.specs.File.{directoryPosition}
-use Rattle.format.specs.Directory.{roomEnd, tileCount, entryCount, directoryBad, directoryRows}
+use Rattle.format.specs.Directory.{roomEnd, tileCount, entryCount, directoryRows}
 use borrow.Author.Needs.{needs}
 use Rattle.directory.proofs.judge_directory.Statement.{statement}
 use Rattle.directory.proofs.judge_directory.Tie as tie

@@ -1,3 +1,4 @@
+-- `directory::judge_entries` meets its contract.
 use borrow.Author.Needs.{needs}
 use Rattle.format.specs.Entry.{nextEntry}
 use Rattle.format.specs.Directory.{roomEnd}

@@ -1,3 +1,4 @@
+-- `directory::judge_entry` meets its contract.
 use mathlib.Core.Path.{sym, _∙_}
 use mathlib.Core.List.{_++_}
 use denote.Ref.{now}

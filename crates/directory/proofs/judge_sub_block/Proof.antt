@@ -1,3 +1,4 @@
+-- `directory::judge_sub_block` meets its contract.
 use Rattle.format.proofs.Flags.{flags}
 use mathlib.Core.Path.{sym, _∙_}
 use Rattle.format.specs.Directory.{subBlockRows}

@@ -1,3 +1,4 @@
+-- `directory::judge_tile` meets its contract.
 use native.Mathlib.Omega.{arith}
 use Rattle.format.proofs.Flags.{cond-true, cond-false, is-true, is-false, is-true-not, is-false-not, not-is-true, not-is-false, eq-yes, eq-no}
 use mathlib.Core.Path.{refl, ap, _∙_}

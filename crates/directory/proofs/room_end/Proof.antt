@@ -1,3 +1,4 @@
+-- `directory::room_end` meets its contract.
 use Rattle.format.specs.Directory.{roomEnd}
 use borrow.Author.Needs.{needs}
 use Rattle.directory.proofs.room_end.Statement.{statement}

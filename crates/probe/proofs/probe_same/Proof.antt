@@ -1,3 +1,4 @@
+-- `probe::probe_same` meets its contract.
 use borrow.Author.Needs.{needs}
 use Rattle.probe.proofs.Ranges.{other-lengths, whole-ranges}
 use Rattle.probe.proofs.probe_same.Statement.{statement}

@@ -1,11 +1,12 @@
+-- `subblocks::contents_bad` meets its contract.
 use Rattle.format.proofs.Flags.{any-here, any-later, any-skip, lt-yes, lt-no, not-is-true, not-is-false, is-true-not, is-false-not}
 use Rattle.format.proofs.Flags as Flags
 use borrow.Author.Tests.{lt-leb}
 use Rattle.subblocks.proofs.PartLaws.{agreed-in, listed-in}
 use native.Mathlib.Omega.{arith}
-use Rattle.subblocks.proofs.PartLaws.{listed-in, fixed-in, agreed-in, filled-in}
+use Rattle.subblocks.proofs.PartLaws.{listed-in, agreed-in}
 use Rattle.format.proofs.Flags.{flags}
-use mathlib.Core.Path.{_≡_, refl, sym, ap, _∙_}
+use mathlib.Core.Path.{_≡_, ap, _∙_}
 use denote.Ref.{now}
 use Rattle.format.specs.Entry.{dimensionCount}
 use Rattle.format.specs.SubBlock.{metadataSize, attachmentSize, dataSize, fixedPart, contentsBad}

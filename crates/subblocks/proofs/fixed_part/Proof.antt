@@ -1,3 +1,4 @@
+-- `subblocks::fixed_part` meets its contract.
 use native.Mathlib.Omega.{arith}
 use Rattle.format.specs.SubBlock.{fixedPart}
 use borrow.Author.Needs.{needs}

@@ -1,10 +1,8 @@
+-- `subblocks::is_pixels_size` meets its contract.
 use mathlib.Core.Path.{_≡_, sym, ap, _∙_}
-use Prim.Native.Nat.{ℕ}
 use denote.Ref.{now}
 use Rattle.format.specs.Entry.{stored, letterPlace, pixelBytes}
 use native.Mathlib.Omega.{arith}
-use Prim.Native.Nat.{_^_, _<_}
-use mathlib.Core.Path.{refl}
 use Rattle.format.specs.Entry.{nextEntry, pixelType}
 use Rattle.format.specs.SubBlock.{pixelsSize}
 use Rattle.entries.proofs.EntryLaws.{dimensions-ok}

@@ -1,8 +1,9 @@
-use mathlib.Core.Path.{_≡_, refl, sym, ap, _∙_}
+-- `subblocks::metadata_place` meets its contract.
+use mathlib.Core.Path.{_≡_, ap, _∙_}
 use denote.Ref.{now}
 use Rattle.format.specs.Entry.{dimensionCount}
 use native.Mathlib.Omega.{arith}
-use Rattle.subblocks.proofs.PartLaws.{listed-in, fixed-in, agreed-in, filled-in}
+use Rattle.subblocks.proofs.PartLaws.{listed-in, agreed-in}
 use Rattle.format.specs.SubBlock.{metadataPlace, fixedPart}
 use mathlib.Core.Path.{ap, _∙_, _≡_}
 use borrow.Author.Needs.{needs}

@@ -1,14 +1,12 @@
-use Prim.Native.Nat.{_+_, _≤_}
-use mathlib.Core.Path.{_≡_, refl, sym, ap, _∙_}
+-- `subblocks::sub_block_bad` meets its contract.
+use mathlib.Core.Path.{_≡_, ap, _∙_}
 use denote.Ref.{now}
 use Rattle.format.specs.SubBlock.{fixedPart}
-use Rattle.format.specs.Segments.{room}
-use Rattle.subblocks.proofs.PartLaws.{listed-in, fixed-in, agreed-in, filled-in}
+use Rattle.subblocks.proofs.PartLaws.{listed-in, fixed-in}
 use Rattle.format.specs.Entry.{dimensionCount}
 use mathlib.Core.Path.{ap, _∙_}
 use native.Mathlib.Omega.{arith}
 use Rattle.format.proofs.Flags.{flags}
-use Rattle.format.specs.Entry.{nextEntry}
 use Rattle.format.specs.SubBlock.{subBlockBad}
 use borrow.Author.Needs.{needs}
 use Rattle.subblocks.proofs.sub_block_bad.Statement.{statement}

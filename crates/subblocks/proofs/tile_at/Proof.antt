@@ -1,7 +1,6 @@
+-- `subblocks::tile_at` meets its contract.
 use native.Mathlib.Omega.{arith}
-use mathlib.Core.Path.{_≡_, refl, sym, ap, _∙_}
-use denote.Ref.{now}
-use Rattle.format.specs.Entry.{nextEntry, pixelType, pyramidByte}
+use Rattle.format.specs.Entry.{pixelType, pyramidByte}
 use Rattle.format.specs.Records.{tileAt}
 use Rattle.entries.proofs.EntryLaws.{dimensions-ok}
 use Rattle.subblocks.proofs.PartLaws.{listed-in}
