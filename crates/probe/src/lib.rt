@@ -1,5 +1,4 @@
 // For measurement alone: the equal ranges of `fields`, lent to C so that host/bench can time them. No part of the product.
-ghost use mathlib.Core.Path.{_≡_};
 ghost use Rattle.probe.specs.Equal.{Tells};
 
 // Whether the two slices hold the same bytes.
