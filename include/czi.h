@@ -15,7 +15,7 @@
  * takes some 80 KiB of stack, one that composes some 150. No function keeps a pointer, and there is no state:
  * calls may run side by side.
  *
- * The refusals by number; crates/format/specs says when each is given, and which goes first:
+ * The refusals by number; crates/format/specs says when each is given and which goes first, of 30 crates/listing/specs:
  *    1 length             5 first segment     9 positions          13 compression    17 chunk
  *    2 segment name       6 Major            10 directory          14 named segment  18 mask
  *    3 segment sizes      7 FilePart         11 entry              15 copy           24 no such number
@@ -77,7 +77,7 @@ enum {
     CZI_TILE_PIXEL_TYPE = 2,
     CZI_TILE_POSITION = 3,           /* where its sub-block stands */
     CZI_TILE_PYRAMID = 4,            /* the pyramid byte, not judged */
-    CZI_TILE_DIMENSIONS = 5,         /* how many: 1 to 16 */
+    CZI_TILE_DIMENSIONS = 5,         /* how many: 2 to 16 */
     CZI_TILE_X_SIZE = 6,
     CZI_TILE_X_STORED = 7,           /* the stored size: StoredSize, where 0 is read as Size */
     CZI_TILE_Y_SIZE = 8,
@@ -138,8 +138,9 @@ uint64_t czi_list(const uint8_t *file, size_t file_len, uint8_t *text);
  *
  * starts       where the tiles to select start, for the letters A to Z: what is missing is 0, what is past 26 is
  *              ignored, and so are X, Y and M. A letter that a tile lacks counts as 0. Pyramid tiles are not selected.
- * any_scene    0: S selects as the other letters do; else tiles of any S are selected.
- * pixel_type   that of the target's pixels: every selected tile that meets the window has it, else 23.
+ * any_scene    0: S selects as the other letters do; else tiles of any S, and without S, are selected.
+ * pixel_type   that of the target's pixels: every selected tile that meets the window has it, else 23. Bytes a pixel:
+ *              0: 1, 1: 2, 2: 4, 3: 3, 4: 6, 8: 12, 9: 4, 10: 8, 11: 24.
  * background   one pixel.
  * left, top    the window's corner in the plane; width and height, 1 to 65,536.
  * masks        1 on: a tile gives only its valid pixels. 2 off. Any other number: not chosen, which is off.
