@@ -17,7 +17,6 @@ use Rattle.format.specs.Attachments.{metadataRows, attachmentsRows}
 use Rattle.format.specs.Rules.{checks, verdict}
 use Rattle.format.specs.declared.Verdict.{Verdict}
 use Rattle.format.specs.declared.Verdict.the-variants.{Accepted, Refused}
-use Rattle.format.specs.Checks.{ifAccepted}
 use Rattle.format.specs.Entry.{isPyramid}
 use Rattle.format.specs.Records.{maskOf}
 use Rattle.format.specs.Masks.{maskFrom}
@@ -30,7 +29,6 @@ use Rattle.selection.specs.Select.{askedStart, tileStart, free, startsThere, se
 use Rattle.tiles.specs.FileTile.{rankOf, rectangle, covers, meets, tileOf, fileTile, tilesBelow}
 use Rattle.question.specs.Question.{windowBad, pixelBad, lentBad, askRows, typeBad, agreeRows}
 use Rattle.question.specs.Call.{Asked, callVerdict, selected, targetAfter}
-use Rattle.question.specs.declared.Frame.{Frame}
 use Rattle.question.specs.declared.Masks.the-variants.{NotChosen}
 
 -- ---- the files of the cases

@@ -1,15 +1,15 @@
 -- The turns along the keys are the composer's whole run over the chosen tiles: those that do not meet the window are passed over. Assumes nothing.
-use Prim.Native.Nat.{ℕ, _%_, _≤_, _<_}
-use mathlib.Core.Path.{_≡_, refl, sym, ap, _∙_}
-use mathlib.Core.List.{List, map, List·Memᴰ}
+use Prim.Native.Nat.{ℕ, _≤_, _<_}
+use mathlib.Core.Path.{_≡_, sym, ap, _∙_}
+use mathlib.Core.List.{List, map}
 use mathlib.Core.Bool.{Bool, false}
 use native.Mathlib.Omega.{arith}
 use Rattle.format.specs.Entry.{filePosition}
 use Rattle.format.specs.Directory.{entryPlace}
 use Rattle.plane.specs.Tiles.{Tile, Window, area, givesAt}
-use Rattle.plane.specs.Turns.{Painting, Kind, run, start, compose}
+use Rattle.plane.specs.Turns.{Kind, run, start, compose}
 use Rattle.plane.specs.Demand2.{Room}
-use Rattle.plane.proofs.Skip.{keep, Apart, skip-compose}
+use Rattle.plane.proofs.Skip.{Apart, skip-compose}
 use Rattle.tiles.specs.FileTile.{meets, rectangle, fileTile, tilesBelow}
 use Rattle.tiles.proofs.Rectangles.{gives-none}
 use Rattle.question.proofs.Ranks.{tiles-entry, tiles-ranked}

@@ -1,23 +1,22 @@
 -- The refusals of a call, one stage after another, and what an accepted one tells the painting. Assumes nothing.
-use Prim.Native.Nat.{ℕ, zero, suc, _+_, _*_, _≤_, _<_}
-use mathlib.Core.Path.{_≡_, refl, sym, ap, subst, _∙_}
-use mathlib.Core.List.{List, [], _∷_, _++_}
+use Prim.Native.Nat.{ℕ, zero, suc, _+_, _≤_, _<_}
+use mathlib.Core.Path.{_≡_, refl, sym, ap, _∙_}
+use mathlib.Core.List.{List}
 use mathlib.Core.Bool.{Bool, true, false, cond, not, true≢false}
 use native.Mathlib.Omega.{arith}
 use native.Mathlib.Nat.{mul-le-mul}
 use lib.ListN.{length, getD}
 use lib.Dec.{eqb}
 use lib.IntN.{ℤ}
-use borrow.Author.Tests.{eqb-true, eqb-false, eq-eqb, ne-eqb, not-false, not-true}
+use borrow.Author.Tests.{eqb-true, eqb-false, not-false, not-true}
 use Rattle.format.specs.Bytes.{allBelow}
-use Rattle.format.specs.Checks.{Check, row, first, rowsBelow}
-use Rattle.format.specs.Entry.{pixelType, pixelBytes, isPyramid}
+use Rattle.format.specs.Checks.{Check, first, rowsBelow}
+use Rattle.format.specs.Entry.{pixelType, isPyramid}
 use Rattle.format.specs.Directory.{tileCount, entryPlace}
 use Rattle.format.specs.Rules.{verdict}
 use Rattle.format.specs.declared.Verdict.{Verdict}
 use Rattle.format.specs.declared.Verdict.the-variants.{Accepted, Refused}
-use Rattle.plane.specs.Tiles.{Window, area}
-use Rattle.plane.specs.Paint.{ones}
+use Rattle.plane.specs.Tiles.{Window}
 use Rattle.plane.specs.Turns.{Painting, Kind, compose}
 use Rattle.turns.specs.TileOf.{windowOf}
 use Rattle.turns.specs.declared.Rect.{Rect}
@@ -31,12 +30,11 @@ use Rattle.format.proofs.Firsts.{passed}
 use Rattle.question.specs.Call.{Asked, callVerdict, askedWindow, askedBytes, selected, painted, answer, targetAfter, mapAfter, Answered}
 use Rattle.question.specs.Call as Call
 use Rattle.question.specs.declared.Frame.{Frame}
-use Rattle.question.specs.declared.Composed.{Composed}
 use Rattle.question.specs.declared.Composed.the-variants as Ans
 use Rattle.question.proofs.Accepts.{call-ok}
 use Rattle.question.proofs.Asking.{window-ok, pixel-ok}
 use Rattle.question.proofs.Calls.{room}
-use Rattle.compose.specs.Steps.{chosenIn, Chosen, Edges, takesTurn, PlaneRoom, PlaneDone, Selects}
+use Rattle.compose.specs.Steps.{chosenIn, Edges, PlaneRoom, PlaneDone, Selects}
 use Rattle.compose.specs.declared.Counts.{Counts}
 use Rattle.compose.proofs.KeyTiles.{tiles-ext}
 use Rattle.compose.proofs.Agreeing.{agreeRow}

@@ -1,11 +1,11 @@
 -- The loop that gathers the keys of the entries that take a turn. Assumes nothing.
 use Prim.Native.Nat.{ℕ, zero, suc, _+_, _%_, _≤_, _<_}
-use mathlib.Core.Path.{_≡_, refl, sym, ap, _∙_}
-use mathlib.Core.List.{List, [], _∷_}
+use mathlib.Core.Path.{_≡_, refl, ap, _∙_}
+use mathlib.Core.List.{List}
 use mathlib.Core.Bool.{Bool, true, false, cond, not}
 use native.Mathlib.Omega.{arith}
 use native.Mathlib.Numerals.{add-one}
-use lib.ListN.{length, getD, take}
+use lib.ListN.{length, getD}
 use lib.Dec.{eqb}
 use borrow.Author.Tests.{eqb-false}
 use Rattle.format.specs.Directory.{tileCount, entryPlace}
@@ -17,7 +17,7 @@ use Rattle.keys.proofs.KeyLaws.{rising-insert}
 use Rattle.tiles.specs.FileTile.{rankOf, rectangle, meets}
 use Rattle.question.proofs.Ranks.{rank-entry}
 use Rattle.judge.proofs.AcceptedFile.{tiled}
-use Rattle.compose.specs.Steps.{chosenIn, Chosen, Edges, takesTurn, keysBelow, Gathered, AddRoom, Added}
+use Rattle.compose.specs.Steps.{Chosen, Edges, takesTurn, keysBelow, Gathered, AddRoom, Added}
 use Rattle.compose.proofs.KeyTiles.{keys-in, key-at}
 use Rattle.compose.proofs.Agreeing.{table-place, table-listed}
 

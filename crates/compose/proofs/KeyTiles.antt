@@ -1,8 +1,8 @@
 -- Keys and the tiles that they stand for: the tiles along the keys are the chosen ones that meet the window, lowest first. Assumes nothing.
-use Prim.Native.Nat.{ℕ, zero, suc, _+_, _*_, _%_, _≤_, _<_}
-use mathlib.Core.Path.{_≡_, refl, sym, ap, _∙_}
-use mathlib.Core.List.{List, [], _∷_, map, reverse}
-use mathlib.Core.Bool.{Bool, true, false, cond, not, true≢false}
+use Prim.Native.Nat.{ℕ, zero, suc, _%_, _≤_, _<_}
+use mathlib.Core.Path.{_≡_, refl, ap, _∙_}
+use mathlib.Core.List.{List, [], _∷_, map}
+use mathlib.Core.Bool.{Bool, true, false, cond}
 use native.Mathlib.Omega.{arith}
 use lib.ListN.{length, getD}
 use lib.Dec.{leb}
@@ -10,7 +10,7 @@ use Rattle.format.specs.Directory.{entryPlace}
 use Rattle.plane.specs.Tiles.{Tile, Window}
 use Rattle.plane.specs.Turns.{Kind, plain, quick, below, insert, bottomFirst, order}
 use Rattle.plane.proofs.Skip.{keep}
-use Rattle.keys.specs.Keys.{insertKey, Rising}
+use Rattle.keys.specs.Keys.{insertKey}
 use Rattle.tiles.specs.FileTile.{rankOf, rectangle, meets, tileOf, fileTile, tilesBelow}
 use Rattle.question.proofs.Ranks.{rank-entry}
 use Rattle.compose.specs.Steps.{chosenIn, takesTurn, keysBelow, tileOfKey, turnOrder}

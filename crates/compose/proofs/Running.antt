@@ -1,5 +1,5 @@
 -- The turns along the keys, one after the other: what the next may read and write, and what it makes of the run. Assumes nothing.
-use Prim.Native.Nat.{ℕ, zero, suc, _+_, _-_, _*_, _%_, _^_, _≤_, _<_}
+use Prim.Native.Nat.{ℕ, zero, suc, _+_, _-_, _*_, _%_, _≤_, _<_}
 use mathlib.Core.Path.{_≡_, refl, sym, ap, subst, _∙_}
 use mathlib.Core.List.{List, [], _∷_, map, reverse}
 use mathlib.Core.Bool.{Bool, true, false, cond, true≢false}
@@ -7,20 +7,19 @@ use native.Mathlib.Omega.{arith}
 use native.Mathlib.Nat.{mul-le-mul}
 use lib.ListN.{length, getD, take, drop, length-map, length-drop, length-reverse, drop-of-length-le}
 use lib.Seq.{getD-take, length-take-le, take-all}
-use Rattle.format.specs.Entry.{pixelType, pixelBytes, filePosition, isPyramid}
+use Rattle.format.specs.Entry.{pixelBytes}
 use Rattle.format.specs.Directory.{tileCount, entryPlace}
 use Rattle.plane.specs.Tiles.{Tile, Window, area}
-use Rattle.plane.specs.Turns.{Painting, Kind, turn, run, noTile}
-use Rattle.plane.specs.Demand2.{Room}
+use Rattle.plane.specs.Turns.{Painting, turn, run, noTile}
 use Rattle.plane.proofs.RunLaws.{Kept, run-kept, room-kept, stored-le}
 use Rattle.plane.proofs.SortedRuns.{run-up, run-down}
 use Rattle.turns.specs.TileOf.{windowOf}
 use Rattle.turns.specs.Turned.{kindOf}
 use Rattle.turns.specs.declared.Rect.{Rect}
-use Rattle.tiles.specs.FileTile.{meets, rectangle, tileOf, fileTile}
+use Rattle.tiles.specs.FileTile.{meets, rectangle, fileTile}
 use Rattle.tiles.specs.Painted.{PaintRoom, Painted}
 use Rattle.judge.proofs.AcceptedFile.{tiled}
-use Rattle.compose.specs.Steps.{chosenIn, Chosen, Edges, takesTurn, keysBelow, Gathered, tileOfKey, RunRoom}
+use Rattle.compose.specs.Steps.{chosenIn, takesTurn, tileOfKey, RunRoom}
 use Rattle.compose.proofs.KeyTiles.{Key, keys-in, key-at}
 
 getD-map : (f : ℕ → Tile) (l : List ℕ) (i : ℕ) → i < length l → getD (map f l) i noTile ≡ f (getD l i 0)

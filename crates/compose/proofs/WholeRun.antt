@@ -1,13 +1,13 @@
 -- From the start through the turns to the composer's whole run, and its counts. Assumes nothing.
-use Prim.Native.Nat.{ℕ, _+_, _*_, _≤_, _<_}
-use mathlib.Core.Path.{_≡_, refl, sym, ap, subst, _∙_}
+use Prim.Native.Nat.{ℕ, _*_, _≤_}
+use mathlib.Core.Path.{_≡_, sym, ap, subst, _∙_}
 use mathlib.Core.List.{List, map}
 use mathlib.Core.Bool.{Bool}
 use lib.ListN.{length, take}
 use Rattle.format.specs.Entry.{pixelBytes}
 use Rattle.format.specs.Directory.{tileCount}
 use Rattle.plane.specs.Paint.{ones}
-use Rattle.plane.specs.Tiles.{Tile, area}
+use Rattle.plane.specs.Tiles.{area}
 use Rattle.plane.specs.Turns.{Painting, Kind, quick, run, start, compose}
 use Rattle.plane.specs.Demand2.{Room}
 use Rattle.plane.proofs.PlaneLaws.{start-room}
@@ -18,7 +18,7 @@ use Rattle.turns.specs.declared.Rect.{Rect}
 use Rattle.tiles.specs.FileTile.{tilesBelow}
 use Rattle.judge.proofs.AcceptedFile.{tiled}
 use Rattle.question.proofs.Ranks.{tiles-ranked}
-use Rattle.compose.specs.Steps.{chosenIn, keysBelow, Gathered, tileOfKey, turnOrder, RunRoom, RunDone, PlaneRoom, Begun}
+use Rattle.compose.specs.Steps.{chosenIn, Gathered, tileOfKey, turnOrder, RunRoom, RunDone, PlaneRoom, Begun}
 use Rattle.compose.proofs.Along.{along}
 
 module _ (t m bs table background : List ℕ) (w : Rect) (pixel : ℕ) (p : PlaneRoom t m bs table background w pixel) (t₁ m₁ : List ℕ) (b : Begun t m background w pixel t₁ m₁) where

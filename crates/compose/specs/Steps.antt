@@ -1,7 +1,7 @@
 -- The steps of composing: a selection in a table, the keys of the tiles that take a turn, and the turns along them.
 use Prim.Native.Nat.{ℕ, zero, suc, _+_, _%_, _^_, _≤_, _<_}
 use mathlib.Core.Path.{_≡_}
-use mathlib.Core.List.{List, [], _∷_, _++_, map, reverse}
+use mathlib.Core.List.{List, [], _++_, map, reverse}
 use mathlib.Core.Bool.{Bool, true, false, cond, not}
 use lib.ListN.{length, getD, take}
 use lib.Dec.{eqb}
@@ -19,7 +19,6 @@ use Rattle.plane.specs.Demand2.{Room}
 use Rattle.keys.specs.Keys.{insertKey, Rising}
 use Rattle.subblocks.specs.Judged.{Listed}
 use Rattle.turns.specs.TileOf.{windowOf}
-use Rattle.turns.specs.Turned.{kindOf}
 use Rattle.turns.specs.declared.Rect.{Rect}
 use Rattle.tiles.specs.FileTile.{rankOf, rectangle, meets, fileTile, tilesBelow}
 use Rattle.selection.specs.Select.{selects}

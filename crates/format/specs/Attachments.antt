@@ -1,7 +1,7 @@
 -- The metadata segment, the attachment directory, its entries A1 and the attachments.
 use Prim.Native.Nat.{ℕ, _+_, _*_}
 use mathlib.Core.List.{List, [], _∷_}
-use mathlib.Core.Bool.{Bool, true, false, cond, not}
+use mathlib.Core.Bool.{Bool, cond, not}
 use lib.ListN.{getD}
 use lib.Dec.{eqb, ltb}
 use Rattle.format.specs.Bytes.{u32At, u64At, sameAt, sameRange, anyOf, anyBelow, negative32}

@@ -1,7 +1,7 @@
 -- The sub-block directory: the refusals of the directory and of each of its entries, in their order.
-use Prim.Native.Nat.{ℕ, zero, suc, _+_, _-_, _*_}
+use Prim.Native.Nat.{ℕ, zero, suc, _+_}
 use mathlib.Core.List.{List, [], _∷_, _++_}
-use mathlib.Core.Bool.{Bool, true, false, cond, not, _||_}
+use mathlib.Core.Bool.{Bool, false, cond, not}
 use lib.Dec.{eqb, ltb}
 use Rattle.format.specs.Bytes.{u32At, anyOf, negative32}
 use Rattle.format.specs.Names.{nameSubBlock}

@@ -1,7 +1,7 @@
 -- An entry DV of the sub-block directory, and its dimensions. An entry is given by the file offset of its first byte.
 use Prim.Native.Nat.{ℕ, _+_, _*_}
 use mathlib.Core.List.{List, [], _∷_}
-use mathlib.Core.Bool.{Bool, true, false, cond, not}
+use mathlib.Core.Bool.{Bool, false, cond, not}
 use lib.ListN.{getD}
 use lib.Dec.{eqb, ltb}
 use Rattle.format.specs.Bytes.{u32At, u64At, sameAt, anyOf, anyBelow, leastBelow, negative32, biased}

@@ -1,7 +1,7 @@
 -- The file segment's fields and the refusals 6, 7, 8, and 9 in field order. The file segment is the one at 0.
 use Prim.Native.Nat.{ℕ}
 use mathlib.Core.List.{List, [], _∷_}
-use mathlib.Core.Bool.{Bool, true, false, cond, not}
+use mathlib.Core.Bool.{Bool, false, cond, not}
 use lib.Dec.{eqb}
 use Rattle.format.specs.Bytes.{u32At, u64At}
 use Rattle.format.specs.Names.{nameDirectory, nameMetadata, nameAttachmentDirectory}

@@ -2,14 +2,13 @@
 -- A chunk is given by the file offset of its header; `end` is the file offset behind the attachment.
 use Prim.Native.Nat.{ℕ, zero, suc, _+_, _-_, _*_, _/_, _%_, _^_}
 use mathlib.Core.List.{List, [], _∷_, _++_}
-use mathlib.Core.Bool.{Bool, true, false, cond, not, _||_}
+use mathlib.Core.Bool.{Bool, false, cond, not, _||_}
 use lib.ListN.{getD}
 use lib.Dec.{eqb, ltb}
 use Rattle.format.specs.Bytes.{u32At, sameAt, anyOf, anyBelow, negative32}
 use Rattle.format.specs.Names.{containerMarker, maskGuid}
 use Rattle.format.specs.Checks.{Check, row}
 use Rattle.format.specs.declared.MaskShape.{MaskShape}
-use Rattle.format.specs.declared.Content.{Content}
 use Rattle.format.specs.declared.Content.the-variants.{Mask, Other}
 use Rattle.format.specs.declared.Chunk.{Chunk}
 use Rattle.format.specs.declared.TileMask.{TileMask}

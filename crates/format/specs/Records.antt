@@ -1,17 +1,17 @@
 -- What is handed out of an accepted file: the tile record, the dimension record, and the stretches of the views.
 use Prim.Native.Nat.{ℕ, _+_}
 use mathlib.Core.List.{List, [], _∷_, _++_}
-use mathlib.Core.Bool.{Bool, true, false, cond}
+use mathlib.Core.Bool.{cond}
 use lib.Dec.{eqb, leb}
 use lib.Ieee.{ofBits, binary32}
 use Rattle.format.specs.Bytes.{anyBelow, signed32}
 use Rattle.format.specs.Checks.{row, first, ifAccepted}
-use Rattle.format.specs.File.{directoryPosition, metadataPosition, attachmentDirectoryPosition}
+use Rattle.format.specs.File.{metadataPosition, attachmentDirectoryPosition}
 use Rattle.format.specs.Entry.{pixelType, filePosition, pyramidByte, dimensionCount, letter, start, size, coordinateBits, stored, dimensionPlace, hasLetter, letterPlace}
 use Rattle.format.specs.SubBlock.{metadataSize, attachmentSize, dataSize, metadataPlace, pixelsPlace, attachmentPlace}
 use Rattle.format.specs.Masks.{isContainer, maskFrom}
 use Rattle.format.specs.Directory.{tileCount, entryPlace}
-use Rattle.format.specs.Attachments.{xmlSize, xmlAttachmentSize, attachmentCount, attachmentEntry, attachmentPosition, attachmentDataSize}
+use Rattle.format.specs.Attachments.{xmlSize, xmlAttachmentSize, attachmentEntry, attachmentPosition, attachmentDataSize}
 use Rattle.format.specs.Rules.{checks, verdict, tileVerdict, attachmentVerdict}
 use Rattle.format.specs.declared.Verdict.{Verdict}
 use Rattle.format.specs.declared.Verdict.the-variants as Is

@@ -2,7 +2,7 @@
 -- The entry stands at e of the file ds, the sub-block at q of the file bs (today the same file).
 use Prim.Native.Nat.{ℕ, _+_, _*_, max}
 use mathlib.Core.List.{List, [], _∷_}
-use mathlib.Core.Bool.{Bool, true, false, not}
+use mathlib.Core.Bool.{Bool, not}
 use lib.Dec.{eqb, ltb}
 use Rattle.format.specs.Bytes.{u32At, u64At, sameRange, anyOf, negative32, negative64}
 use Rattle.format.specs.Segments.{room}

@@ -1,19 +1,17 @@
 -- What an accepted file has: its entries are judged, and all that is handed out lies in it. Assumes nothing.
 use Prim.Native.Nat.{ℕ, _+_, _*_, _^_, _≤_, _<_}
-use mathlib.Core.Path.{_≡_, refl, sym, _∙_}
-use mathlib.Core.List.{List, [], _∷_, _++_}
-use mathlib.Core.Bool.{Bool, true, false, cond}
+use mathlib.Core.Path.{_≡_}
+use mathlib.Core.List.{List}
 use native.Mathlib.Omega.{arith}
 use lib.ListN.{length}
-use lib.Dec.{eqb}
-use borrow.Author.Tests.{ltb-false, leb-false, ne-eqb, eqb-true, not-false}
+use borrow.Author.Tests.{ltb-false, ne-eqb, not-false}
 use Rattle.format.specs.Checks.{first}
 use Rattle.format.specs.Names.{nameAttachment}
-use Rattle.format.specs.Segments.{room, RoomIn, segmentsRows}
+use Rattle.format.specs.Segments.{room, RoomIn}
 use Rattle.format.specs.File.{directoryPosition, metadataPosition, attachmentDirectoryPosition}
-use Rattle.format.specs.Entry.{filePosition, nextEntry}
-use Rattle.format.specs.Directory.{tileCount, entryCount, entryPlace, directoryBad, headRows, tileRows, subBlockRows, attachmentRows, entryRows, directoryRows}
-use Rattle.format.specs.Attachments.{xmlSize, xmlAttachmentSize, metadataBad, metadataRows, attachmentEntryCount, attachmentEntry, attachmentCount, attachmentDirectoryBad, attachmentPosition, attachmentDataSize, attachmentBad, attachmentDataBad, attachmentEntryRows, attachmentDirectoryRows, attachmentsRows}
+use Rattle.format.specs.Entry.{filePosition}
+use Rattle.format.specs.Directory.{tileCount, entryCount, entryPlace, directoryBad, headRows, tileRows, subBlockRows, entryRows, directoryRows}
+use Rattle.format.specs.Attachments.{xmlSize, xmlAttachmentSize, metadataBad, metadataRows, attachmentEntryCount, attachmentEntry, attachmentDirectoryBad, attachmentPosition, attachmentDataSize, attachmentDataBad, attachmentEntryRows, attachmentDirectoryRows, attachmentsRows}
 use Rattle.format.specs.Rules.{verdict}
 use Rattle.format.specs.declared.Verdict.the-variants.{Accepted}
 use Rattle.format.proofs.Below.{none}
@@ -23,9 +21,8 @@ use Rattle.format.proofs.Walk.{file-long}
 use Rattle.format.proofs.Acceptance.{verdict-parts}
 use Rattle.segments.proofs.Walking.{file-small}
 use Rattle.subblocks.specs.Judged.{Judged}
-use Rattle.directory.proofs.Stages.{headed, placed, filled, first-entry}
-use Rattle.attachments.proofs.AttachmentLaws.{entries-within, attachment-fits}
-use Rattle.judge.specs.Located.{Located}
+use Rattle.directory.proofs.Stages.{headed, placed, filled}
+use Rattle.attachments.proofs.AttachmentLaws.{entries-within}
 use Rattle.judge.proofs.LocatedLaws.{located}
 
 -- ---- tiles

@@ -1,9 +1,8 @@
 -- Once the file segment is accepted, the rooms of the segments that it names lie in the file. Assumes nothing.
-use Prim.Native.Nat.{ℕ, _+_, _≤_}
-use mathlib.Core.Path.{_≡_, refl}
+use Prim.Native.Nat.{ℕ}
+use mathlib.Core.Path.{_≡_}
 use mathlib.Core.List.{List}
-use mathlib.Core.Bool.{Bool, true, false, cond, not}
-use lib.Dec.{eqb}
+use mathlib.Core.Bool.{false}
 use borrow.Author.Tests.{ne-eqb, not-false}
 use Rattle.format.specs.Checks.{first}
 use Rattle.format.specs.Names.{nameDirectory, nameMetadata, nameAttachmentDirectory}

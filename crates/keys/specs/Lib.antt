@@ -1,1 +1,2 @@
+-- Keys in rising order.
 pub mod Keys

@@ -7,12 +7,11 @@ use lib.IntN.{ℤ, pos, negsuc, _+ℤ_}
 use Rattle.format.specs.declared.Verdict.the-variants.{Accepted, Refused}
 use Rattle.plane.specs.Sums.{sum}
 use Rattle.plane.specs.Paint.{ones}
-use Rattle.plane.specs.Tiles.{Tile, Ranked, Window, area, within, covered, sumOver}
+use Rattle.plane.specs.Tiles.{Ranked, area, within, covered, sumOver}
 use Rattle.plane.specs.Turns.{Painting, Kind, plain, quick, added}
 use Rattle.plane.specs.Demand2.{Plane}
 use Rattle.plane.specs.Cuts.{Line, column, row, Cuts, fore, rear, Halves, SamePixels}
 use Rattle.plane.specs.Demand3 as Runs
-use Rattle.question.specs.Question.{windowOf}
 use Rattle.question.specs.Call.{Asked, callVerdict, askedWindow, askedBytes, selected, painted, answer, targetAfter, mapAfter, numberIn, placeIn, coveredIn, storedIn, Answered}
 use Rattle.question.specs.declared.Frame.{Frame}
 use Rattle.question.specs.declared.Composed.{Composed}

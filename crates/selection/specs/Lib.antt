@@ -1,2 +1,3 @@
+-- Which entries a question selects.
 pub mod Select
 pub mod Table

@@ -1,1 +1,2 @@
+-- Lines of plain text.
 pub mod Text

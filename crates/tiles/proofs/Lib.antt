@@ -1,2 +1,3 @@
+-- Laws of an entry's tile and of its turn.
 pub mod Rectangles
 pub mod EntryTiles

@@ -2,7 +2,7 @@
 -- A plane coordinate is the signed number plus 2 ^ 31.
 use Prim.Native.Nat.{ℕ, zero, suc, _+_, _-_, _*_}
 use mathlib.Core.List.{List, [], _∷_}
-use mathlib.Core.Bool.{Bool, true, false, cond, not, _&&_, _||_}
+use mathlib.Core.Bool.{Bool, true, cond, not, _&&_, _||_}
 use lib.ListN.{getD}
 use lib.Dec.{leb, ltb}
 use Rattle.format.specs.Bytes.{anyBelow, biased}

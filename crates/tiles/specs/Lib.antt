@@ -1,2 +1,3 @@
+-- An entry's tile as a composer sees it, and its turn.
 pub mod FileTile
 pub mod Painted

@@ -1,5 +1,6 @@
+-- `ask::ask` meets its contract.
 use Rattle.format.proofs.Flags.{flags}
-use mathlib.Core.Path.{_≡_, refl, sym, ap, _∙_}
+use mathlib.Core.Path.{sym, _∙_}
 use Rattle.question.specs.Question.{askRows}
 use borrow.Author.Needs.{needs}
 use Rattle.ask.proofs.ask.Statement.{statement}

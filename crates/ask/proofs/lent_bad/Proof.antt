@@ -1,11 +1,11 @@
-use Rattle.format.proofs.Flags.{any-here, any-later, any-skip, cond-true, cond-false, is-true, is-false, not-is-true, not-is-false, eq-yes, eq-no, lt-yes′, lt-no′}
+-- `ask::lent_bad` meets its contract.
+use Rattle.format.proofs.Flags.{any-here, any-later, any-skip}
 use Rattle.format.proofs.Flags as Flags
-use borrow.Author.Tests.{eq-eqb, ne-eqb, lt-ltb, le-ltb}
+use borrow.Author.Tests.{lt-ltb, le-ltb}
 use native.Mathlib.Omega.{arith}
 use Rattle.ask.proofs.AskLaws.{sides, area-most, bytes-most}
-use mathlib.Core.Path.{_≡_, refl, sym, ap, _∙_}
 use Rattle.entries.proofs.EntryLaws.{pixel-bytes-few}
-use Rattle.question.specs.Question.{windowOf, lentBad}
+use Rattle.question.specs.Question.{lentBad}
 use borrow.Author.Needs.{needs}
 use Rattle.ask.proofs.lent_bad.Statement.{statement}
 use Rattle.ask.proofs.lent_bad.Tie as tie

@@ -1,6 +1,6 @@
-use Rattle.format.proofs.Flags.{any-here, any-later, any-skip, cond-true, cond-false, is-true, is-false, not-is-true, not-is-false, eq-yes, eq-no, lt-yes′, lt-no′}
+-- `ask::pixel_bad` meets its contract.
+use Rattle.format.proofs.Flags.{any-here, eq-yes}
 use Rattle.format.proofs.Flags as Flags
-use borrow.Author.Tests.{eq-eqb, ne-eqb, lt-ltb, le-ltb}
 use Rattle.format.proofs.Flags.{flags}
 use Rattle.question.specs.Question.{pixelBad}
 use borrow.Author.Needs.{needs}

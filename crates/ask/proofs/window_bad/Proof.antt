@@ -1,7 +1,8 @@
+-- `ask::window_bad` meets its contract.
 use Rattle.entries.proofs.ReadBack.{read-back}
 use mathlib.Core.Path.{_≡_, ap, _∙_}
 use Rattle.format.specs.Bytes.{shifted}
-use Rattle.format.proofs.Flags.{any-here, any-later, any-skip, cond-true, cond-false, is-true, is-false, not-is-true, not-is-false, eq-yes, eq-no, lt-yes′, lt-no′}
+use Rattle.format.proofs.Flags.{any-here, any-later, any-skip}
 use Rattle.format.proofs.Flags as Flags
 use borrow.Author.Tests.{eq-eqb, ne-eqb, lt-ltb, le-ltb}
 use Rattle.question.specs.Question.{windowBad}

@@ -1,6 +1,7 @@
+-- `ask::window_of` meets its contract.
 use Rattle.entries.proofs.ReadBack.{read-back}
 use Rattle.format.specs.Bytes.{shifted}
-use mathlib.Core.Path.{_≡_, refl, sym, ap, _∙_}
+use mathlib.Core.Path.{_≡_, ap, _∙_}
 use borrow.Author.Needs.{needs}
 use Rattle.ask.proofs.window_of.Statement.{statement}
 use Rattle.ask.proofs.window_of.Tie as tie

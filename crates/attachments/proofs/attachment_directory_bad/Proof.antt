@@ -1,3 +1,4 @@
+-- `attachments::attachment_directory_bad` meets its contract.
 use borrow.Author.Tests.{le-ltb, lt-leb}
 use Rattle.format.proofs.Flags.{flags, any-skip, any-none}
 use Rattle.format.specs.Attachments.{attachmentDirectoryBad, attachmentEntryCount}

@@ -1,3 +1,4 @@
+-- `attachments::attachment_entry_bad` meets its contract.
 use Rattle.format.specs.Names.{markAttachment}
 use Rattle.format.specs.Attachments.{attachmentEntryBad}
 use Rattle.format.proofs.Flags.{flags}

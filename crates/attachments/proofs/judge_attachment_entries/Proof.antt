@@ -1,3 +1,4 @@
+-- `attachments::judge_attachment_entries` meets its contract.
 use Prim.Native.Nat.{_-_, _≤_}
 use mathlib.Core.Path.{_≡_, sym, _∙_}
 use native.Mathlib.Omega.{arith}

@@ -1,3 +1,4 @@
+-- `attachments::judge_attachment_entry` meets its contract.
 use mathlib.Core.Path.{sym, _∙_}
 use native.Mathlib.Omega.{arith}
 use Rattle.format.specs.Names.{nameAttachment}

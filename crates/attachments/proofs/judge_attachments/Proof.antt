@@ -1,3 +1,4 @@
+-- `attachments::judge_attachments` meets its contract.
 use Prim.Native.Nat.{_+_, _*_, _≤_}
 use native.Mathlib.Omega.{arith}
 use denote.Ref.{now}

@@ -1,3 +1,4 @@
+-- `attachments::judge_metadata` meets its contract.
 use Rattle.format.proofs.Flags.{flags}
 use borrow.Author.Tests.{eq-eqb, ne-eqb}
 use Rattle.format.specs.File.{metadataPosition}

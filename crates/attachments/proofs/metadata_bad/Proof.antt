@@ -1,3 +1,4 @@
+-- `attachments::metadata_bad` meets its contract.
 use Rattle.format.proofs.Flags.{flags}
 use Rattle.format.specs.Attachments.{metadataBad, xmlSize, xmlAttachmentSize}
 use Rattle.attachments.proofs.AttachmentLaws.{metadata-short}

@@ -1,5 +1,6 @@
+-- `compose::add_key` meets its contract.
 use native.Mathlib.Omega.{arith}
-use mathlib.Core.Path.{_≡_, refl, sym, ap, _∙_}
+use mathlib.Core.Path.{_∙_}
 use borrow.Author.Tests.{eq-eqb, ne-eqb}
 use Rattle.format.proofs.Flags.{is-true-not, is-false-not}
 use Rattle.turns.specs.TileOf.{windowOf}

@@ -1,9 +1,9 @@
+-- `compose::agree` meets its contract.
 use Rattle.compose.proofs.Agreeing.{agreeRow, table-listed, agree-next, agree-stop}
-use borrow.Author.Needs.{needs}
 use Rattle.format.proofs.Firsts.{rows-zero}
 use Rattle.judge.proofs.AcceptedFile.{tiled}
 use Prim.Native.Nat.{_-_, _≤_}
-use mathlib.Core.Path.{_≡_, refl, sym, ap, _∙_}
+use mathlib.Core.Path.{_≡_, sym}
 use native.Mathlib.Omega.{arith}
 use Rattle.format.specs.Checks.{first, rowsBelow}
 use Rattle.format.specs.declared.Verdict.the-variants.{Accepted}

@@ -1,9 +1,9 @@
+-- `compose::begin` meets its contract.
 use Rattle.turns.specs.TileOf.{windowOf}
 use native.Mathlib.Omega.{arith}
-use mathlib.Core.Path.{_≡_, refl, sym, ap, _∙_}
+use mathlib.Core.Path.{sym, _∙_}
 use Rattle.format.specs.Entry.{pixelBytes}
 use Rattle.entries.proofs.EntryLaws.{pixel-bytes-few}
-use Rattle.blank.specs.Blank.{FillRoom}
 use Rattle.blank.proofs.Start.{started}
 use borrow.Author.Needs.{needs}
 use Rattle.compose.proofs.begin.Statement.{statement}

@@ -1,4 +1,5 @@
-use mathlib.Core.Path.{_≡_, refl, sym, ap, _∙_}
+-- `compose::compose_by` meets its contract.
+use mathlib.Core.Path.{sym, _∙_}
 use denote.Ref.{now}
 use Rattle.compose.specs.Steps.{asked}
 use Rattle.compose.proofs.Examining.{call-sides, plane-room, done, refused}

@@ -1,12 +1,11 @@
+-- `compose::disagrees` meets its contract.
 use Rattle.format.specs.Entry.{pixelType}
 use Rattle.format.proofs.Flags.{is-true-not, is-false-not}
 use Rattle.turns.specs.TileOf.{windowOf}
 use Rattle.subblocks.proofs.PartLaws.{listed-in}
 use Rattle.tiles.proofs.Rectangles.{read-edges}
 use Rattle.question.specs.Question.{typeBad}
-use Rattle.tiles.specs.FileTile.{meets, rectangle}
 use native.Mathlib.Omega.{arith}
-use mathlib.Core.Path.{_≡_, refl, sym, ap, _∙_}
 use borrow.Author.Tests.{eq-eqb, ne-eqb}
 use Rattle.compose.proofs.disagrees.Statement.{statement}
 use Rattle.compose.proofs.disagrees.Tie as tie

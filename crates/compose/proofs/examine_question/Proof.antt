@@ -1,8 +1,8 @@
+-- `compose::examine_question` meets its contract.
 use Prim.Native.Nat.{ℕ}
-use mathlib.Core.Path.{_≡_, refl, sym, ap, _∙_}
+use mathlib.Core.Path.{sym, _∙_}
 use denote.Ref.{now}
 use Rattle.directory.proofs.Stages.{then-stop, then-next}
-use mathlib.Core.List.{_++_}
 use Rattle.format.specs.Directory.{entryPlace}
 use Rattle.selection.specs.Select.{selects}
 use Rattle.question.specs.Question.{askRows, agreeRows}

@@ -1,5 +1,5 @@
-use mathlib.Core.Path.{_≡_, refl, sym, ap, _∙_}
-use Rattle.compose.proofs.Examining.{selects-table, agreed, sides-fit, edges-fit, plane-room, done, refused}
+-- `compose::examine_tiles` meets its contract.
+use Rattle.compose.proofs.Examining.{selects-table, agreed, sides-fit, edges-fit}
 use borrow.Author.Needs.{needs}
 use Rattle.compose.proofs.examine_tiles.Statement.{statement}
 use Rattle.compose.proofs.examine_tiles.Tie as tie

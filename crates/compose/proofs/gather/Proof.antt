@@ -1,5 +1,6 @@
+-- `compose::gather` meets its contract.
 use Prim.Native.Nat.{_-_, _≤_}
-use mathlib.Core.Path.{_≡_, refl, sym, ap, _∙_}
+use mathlib.Core.Path.{_≡_}
 use native.Mathlib.Omega.{arith}
 use Rattle.turns.specs.TileOf.{windowOf}
 use Rattle.judge.proofs.AcceptedFile.{tiled}

@@ -1,12 +1,13 @@
-use Prim.Native.Nat.{_+_, _-_, _≤_}
-use mathlib.Core.Path.{_≡_, refl, sym, ap, _∙_}
+-- `compose::paint_down` meets its contract.
+use Prim.Native.Nat.{_-_, _≤_}
+use mathlib.Core.Path.{_≡_}
 use mathlib.Core.List.{reverse}
-use mathlib.Core.Bool.{true, false}
+use mathlib.Core.Bool.{true}
 use native.Mathlib.Omega.{arith}
-use lib.ListN.{take, drop}
+use lib.ListN.{drop}
 use Rattle.judge.proofs.AcceptedFile.{tiled}
 use Rattle.compose.specs.Steps.{RunRoom}
-use Rattle.compose.proofs.Running.{Painting-is, tiles, up-start, up-next, up-end, down-start, down-from, key-room, stored-small, same-target, same-map}
+use Rattle.compose.proofs.Running.{Painting-is, tiles, down-start, down-from, key-room, stored-small, same-target, same-map}
 use Rattle.compose.proofs.paint_down.Statement.{statement}
 use Rattle.compose.proofs.paint_down.Tie as tie
 

@@ -1,4 +1,4 @@
-use mathlib.Core.Path.{_≡_, refl, sym, ap, _∙_}
+-- `compose::paint_plane` meets its contract.
 use Rattle.compose.proofs.WholeRun.{run-room, map-room, whole, quick-covered}
 use borrow.Author.Needs.{needs}
 use Rattle.compose.proofs.paint_plane.Statement.{statement}

@@ -1,12 +1,12 @@
-use Prim.Native.Nat.{_+_, _-_, _≤_}
-use mathlib.Core.Path.{_≡_, refl, sym, ap, _∙_}
-use mathlib.Core.List.{reverse}
-use mathlib.Core.Bool.{true, false}
+-- `compose::paint_up` meets its contract.
+use Prim.Native.Nat.{_-_, _≤_}
+use mathlib.Core.Path.{_≡_}
+use mathlib.Core.Bool.{false}
 use native.Mathlib.Omega.{arith}
-use lib.ListN.{take, drop}
+use lib.ListN.{take}
 use Rattle.judge.proofs.AcceptedFile.{tiled}
 use Rattle.compose.specs.Steps.{RunRoom}
-use Rattle.compose.proofs.Running.{Painting-is, tiles, up-start, up-next, up-end, down-start, down-from, key-room, stored-small, same-target, same-map}
+use Rattle.compose.proofs.Running.{Painting-is, tiles, up-start, up-next, up-end, key-room, stored-small, same-target, same-map}
 use Rattle.compose.proofs.paint_up.Statement.{statement}
 use Rattle.compose.proofs.paint_up.Tie as tie
 

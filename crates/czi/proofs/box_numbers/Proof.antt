@@ -1,3 +1,4 @@
+-- `czi::box_numbers` meets its contract.
 use Rattle.entries.proofs.ReadBack.{read-back}
 use borrow.Author.Needs.{needs}
 use Rattle.czi.proofs.box_numbers.Statement.{statement}

@@ -1,3 +1,4 @@
+-- `czi::choice_of` meets its contract.
 use Rattle.format.proofs.Flags.{flags}
 use Rattle.czi.specs.Plane.{choiceOf}
 use Rattle.czi.proofs.choice_of.Statement.{statement}

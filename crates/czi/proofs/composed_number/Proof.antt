@@ -1,3 +1,4 @@
+-- `czi::composed_number` meets its contract.
 use native.Mathlib.Omega.{arith}
 use borrow.Author.Needs.{needs}
 use Rattle.czi.proofs.composed_number.Statement.{statement}

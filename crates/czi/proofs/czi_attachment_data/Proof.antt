@@ -1,3 +1,4 @@
+-- `czi::czi_attachment_data` meets its contract.
 use Rattle.czi.proofs.Numbers.{attachment-verdict-low, told-low}
 use Rattle.czi.proofs.Told.{said-span}
 use borrow.Author.Needs.{needs}

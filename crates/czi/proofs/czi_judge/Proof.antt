@@ -1,3 +1,4 @@
+-- `czi::czi_judge` meets its contract.
 use Rattle.czi.proofs.Numbers.{verdict-low, told-low}
 use Rattle.czi.proofs.Told.{said}
 use borrow.Author.Needs.{needs}

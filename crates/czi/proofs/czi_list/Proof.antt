@@ -1,3 +1,4 @@
+-- `czi::czi_list` meets its contract.
 use Rattle.czi.proofs.Told.{said-text}
 use borrow.Author.Needs.{needs}
 use Rattle.czi.proofs.czi_list.Statement.{statement}

@@ -1,3 +1,4 @@
+-- `czi::czi_tile` meets its contract.
 use mathlib.Core.Path.{ap, _∙_}
 use Rattle.czi.specs.Given.{tileGiven}
 use Rattle.czi.proofs.Numbers.{tile-low, told-low}

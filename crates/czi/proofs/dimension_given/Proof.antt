@@ -1,3 +1,4 @@
+-- `czi::dimension_given` meets its contract.
 use borrow.Author.Needs.{needs}
 use Rattle.czi.proofs.dimension_given.Statement.{statement}
 use Rattle.czi.proofs.dimension_given.Tie as tie

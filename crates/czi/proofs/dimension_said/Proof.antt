@@ -1,3 +1,4 @@
+-- `czi::dimension_said` meets its contract.
 use borrow.Author.Needs.{needs}
 use Rattle.czi.proofs.dimension_said.Statement.{statement}
 use Rattle.czi.proofs.dimension_said.Tie as tie

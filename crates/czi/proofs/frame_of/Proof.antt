@@ -1,3 +1,4 @@
+-- `czi::frame_of` meets its contract.
 use Rattle.entries.proofs.ReadBack.{read-back}
 use borrow.Author.Needs.{needs}
 use Rattle.czi.proofs.frame_of.Statement.{statement}

@@ -1,3 +1,4 @@
+-- `czi::layer_numbers` meets its contract.
 use Rattle.entries.proofs.ReadBack.{read-back}
 use borrow.Author.Needs.{needs}
 use Rattle.czi.proofs.layer_numbers.Statement.{statement}

@@ -1,3 +1,4 @@
+-- `czi::mask_numbers` meets its contract.
 use borrow.Author.Needs.{needs}
 use Rattle.czi.proofs.mask_numbers.Statement.{statement}
 use Rattle.czi.proofs.mask_numbers.Tie as tie

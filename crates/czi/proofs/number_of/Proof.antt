@@ -1,3 +1,4 @@
+-- `czi::number_of` meets its contract.
 use native.Mathlib.Omega.{arith}
 use borrow.Author.Needs.{needs}
 use Rattle.czi.proofs.number_of.Statement.{statement}

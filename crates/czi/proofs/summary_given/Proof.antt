@@ -1,3 +1,4 @@
+-- `czi::summary_given` meets its contract.
 use borrow.Author.Needs.{needs}
 use Rattle.czi.proofs.summary_given.Statement.{statement}
 use Rattle.czi.proofs.summary_given.Tie as tie

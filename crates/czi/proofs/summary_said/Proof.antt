@@ -1,3 +1,4 @@
+-- `czi::summary_said` meets its contract.
 use borrow.Author.Needs.{needs}
 use Rattle.czi.proofs.summary_said.Statement.{statement}
 use Rattle.czi.proofs.summary_said.Tie as tie

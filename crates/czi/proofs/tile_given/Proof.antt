@@ -1,3 +1,4 @@
+-- `czi::tile_given` meets its contract.
 use borrow.Author.Needs.{needs}
 use Rattle.czi.proofs.tile_given.Statement.{statement}
 use Rattle.czi.proofs.tile_given.Tie as tie

@@ -1,3 +1,4 @@
+-- `czi::tile_numbers` meets its contract.
 use Rattle.czi.specs.Given.{tileNumbers}
 use borrow.Author.Needs.{needs}
 use Rattle.czi.proofs.tile_numbers.Statement.{statement}

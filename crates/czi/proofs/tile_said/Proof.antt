@@ -1,3 +1,4 @@
+-- `czi::tile_said` meets its contract.
 use borrow.Author.Needs.{needs}
 use Rattle.czi.proofs.tile_said.Statement.{statement}
 use Rattle.czi.proofs.tile_said.Tie as tie

@@ -1,3 +1,4 @@
+-- `czi::tile_starts` meets its contract.
 use Rattle.entries.proofs.ReadBack.{read-back}
 use Rattle.czi.specs.Given.{tileStarts}
 use borrow.Author.Needs.{needs}

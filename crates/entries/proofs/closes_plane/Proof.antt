@@ -1,3 +1,4 @@
+-- `entries::closes_plane` meets its contract.
 use borrow.Author.Needs.{needs}
 use Rattle.format.specs.Entry.{closesPlane}
 use Rattle.format.proofs.Flags.{flags}

@@ -1,3 +1,4 @@
+-- `entries::dimension_at` meets its contract.
 use borrow.Author.Needs.{needs}
 use Rattle.format.specs.Entry.{letter, start, size, coordinateBits}
 use Rattle.format.specs.Records.{dimensionAt}

@@ -1,3 +1,4 @@
+-- `entries::dimension_bad` meets its contract.
 use borrow.Author.Needs.{needs}
 use Rattle.format.specs.Entry.{dimensionBad, storedField}
 use Rattle.format.proofs.Flags.{flags, any-later}

@@ -1,3 +1,4 @@
+-- `entries::dimension_count` meets its contract.
 use borrow.Author.Needs.{needs}
 use Rattle.format.specs.Entry.{dimensionCount}
 use Rattle.entries.proofs.dimension_count.Statement.{statement}

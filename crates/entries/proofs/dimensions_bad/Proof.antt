@@ -1,3 +1,4 @@
+-- `entries::dimensions_bad` meets its contract.
 use borrow.Author.Needs.{needs}
 use Rattle.format.specs.Entry.{dimensionsBad}
 use Rattle.format.proofs.Flags.{flags, any-later}

@@ -1,3 +1,4 @@
+-- `entries::extent_at` meets its contract.
 use borrow.Author.Needs.{needs}
 use Rattle.format.specs.Entry.{start, size}
 use Rattle.format.specs.Records.{extentAt}

@@ -1,3 +1,4 @@
+-- `entries::has_letter` meets its contract.
 use borrow.Author.Needs.{needs}
 use Rattle.format.specs.Entry.{hasLetter, letter}
 use Rattle.format.proofs.Flags.{flags}

@@ -1,3 +1,4 @@
+-- `entries::head_bad` meets its contract.
 use borrow.Author.Needs.{needs}
 use Rattle.format.specs.Entry.{headBad}
 use Rattle.format.specs.Names.{markTile}

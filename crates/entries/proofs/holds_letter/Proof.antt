@@ -1,3 +1,4 @@
+-- `entries::holds_letter` meets its contract.
 use native.Mathlib.Omega.{arith}
 use Rattle.format.specs.Entry.{nextEntry}
 use Rattle.entries.proofs.holds_letter.Statement.{statement}

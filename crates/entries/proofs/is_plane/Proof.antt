@@ -1,3 +1,4 @@
+-- `entries::is_plane` meets its contract.
 use Rattle.format.specs.Entry.{isPlane}
 use Rattle.format.proofs.Flags.{flags}
 use Rattle.entries.proofs.is_plane.Statement.{statement}

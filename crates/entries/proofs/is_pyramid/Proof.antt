@@ -1,3 +1,4 @@
+-- `entries::is_pyramid` meets its contract.
 use native.Mathlib.Omega.{arith}
 use borrow.Author.Needs.{needs}
 use Rattle.format.specs.Entry.{isPyramid, size}

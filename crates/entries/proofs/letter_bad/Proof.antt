@@ -1,3 +1,4 @@
+-- `entries::letter_bad` meets its contract.
 use borrow.Author.Needs.{needs}
 use Rattle.format.specs.Entry.{letterBad, letter}
 use Rattle.format.proofs.Flags.{flags}

@@ -1,3 +1,4 @@
+-- `entries::letter_index` meets its contract.
 use Prim.Native.Nat.{_-_}
 use mathlib.Core.Path.{_∙_}
 use native.Mathlib.Omega.{arith}

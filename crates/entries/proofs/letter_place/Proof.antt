@@ -1,3 +1,4 @@
+-- `entries::letter_place` meets its contract.
 use denote.Ref.{now}
 use native.Mathlib.Omega.{arith}
 use borrow.Author.Needs.{needs}

@@ -1,3 +1,4 @@
+-- `entries::pixel_bytes` meets its contract.
 use borrow.Author.Tests.{ne-eqb}
 use Rattle.format.specs.Entry.{pixelBytes}
 use Rattle.entries.proofs.pixel_bytes.Statement.{statement}

@@ -1,3 +1,4 @@
+-- `entries::repeats_at` meets its contract.
 use borrow.Author.Needs.{needs}
 use Rattle.format.specs.Entry.{repeats, letter}
 use Rattle.entries.proofs.repeats_at.Statement.{statement}

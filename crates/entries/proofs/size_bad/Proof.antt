@@ -1,3 +1,4 @@
+-- `entries::size_bad` meets its contract.
 use borrow.Author.Needs.{needs}
 use Rattle.format.specs.Entry.{sizeBad, letter, size}
 use Rattle.format.proofs.Flags.{flags}

@@ -1,3 +1,4 @@
+-- `entries::stored_at` meets its contract.
 use borrow.Author.Needs.{needs}
 use Rattle.format.specs.Entry.{stored, storedField, size}
 use Rattle.format.proofs.Flags.{flags}

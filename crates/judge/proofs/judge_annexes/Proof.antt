@@ -1,9 +1,6 @@
-use mathlib.Core.Path.{_≡_, refl, sym, ap, _∙_}
+-- `judge::judge_annexes` meets its contract.
 use denote.Ref.{now}
 use Rattle.directory.proofs.Stages.{then-stop, then-next}
-use mathlib.Core.List.{_++_}
-use Rattle.format.specs.File.{fileRows}
-use Rattle.format.specs.Directory.{directoryRows}
 use Rattle.format.specs.Attachments.{metadataRows, attachmentsRows}
 use borrow.Author.Needs.{needs}
 use Rattle.judge.proofs.judge_annexes.Statement.{statement}

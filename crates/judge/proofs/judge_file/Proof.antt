@@ -1,4 +1,5 @@
-use mathlib.Core.Path.{_≡_, refl, sym, ap, _∙_}
+-- `judge::judge_file` meets its contract.
+use mathlib.Core.Path.{refl, ap, _∙_}
 use denote.Ref.{now}
 use Rattle.format.proofs.Flags.{cond-true, cond-false, is-true, is-false, not-is-true, not-is-false, eq-yes, eq-no}
 use Prim.Native.Nat.{ℕ}

@@ -1,4 +1,5 @@
-use mathlib.Core.Path.{_≡_, refl, sym, ap, _∙_}
+-- `judge::judge_walked` meets its contract.
+use mathlib.Core.Path.{sym, _∙_}
 use denote.Ref.{now}
 use Rattle.directory.proofs.Stages.{then-stop, then-next}
 use mathlib.Core.List.{_++_}

@@ -1,3 +1,4 @@
+-- `judge::names_none` meets its contract.
 use Rattle.format.specs.File.{namesNone}
 use borrow.Author.Needs.{needs}
 use Rattle.judge.proofs.names_none.Statement.{statement}

@@ -1,3 +1,4 @@
+-- `judge::names_none_but_0` meets its contract.
 use Rattle.format.specs.File.{namesNoneBut0}
 use borrow.Author.Tests.{eq-eqb, ne-eqb}
 use borrow.Author.Needs.{needs}

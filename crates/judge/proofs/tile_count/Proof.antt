@@ -1,3 +1,4 @@
+-- `judge::tile_count` meets its contract.
 use native.Mathlib.Omega.{arith}
 use Rattle.format.specs.File.{directoryPosition}
 use Rattle.format.specs.Directory.{entryCount, tileCount}

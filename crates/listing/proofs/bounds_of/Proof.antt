@@ -1,3 +1,4 @@
+-- `listing::bounds_of` meets its contract.
 use Rattle.entries.proofs.ReadBack.{read-back}
 use Rattle.listing.specs.Summary.{boundsOf}
 use Rattle.listing.proofs.bounds_of.Statement.{statement}

@@ -1,3 +1,4 @@
+-- `listing::far_edge` meets its contract.
 use native.Mathlib.Omega.{arith}
 use Rattle.format.specs.Bytes.{biased}
 use Rattle.format.specs.Entry.{start, size}

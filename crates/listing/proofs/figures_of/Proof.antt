@@ -1,3 +1,4 @@
+-- `listing::figures_of` meets its contract.
 use native.Mathlib.Omega.{arith}
 use Rattle.listing.specs.Figures.{figuresOf}
 use Rattle.listing.proofs.figures_of.Statement.{statement}

@@ -1,3 +1,4 @@
+-- `listing::list` meets its contract.
 use mathlib.Core.Path.{sym, _∙_}
 use Rattle.listing.proofs.Texts.{figures-held, listing-long, listing-refused, listing-accepted}
 use borrow.Author.Needs.{needs}

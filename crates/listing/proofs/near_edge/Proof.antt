@@ -1,3 +1,4 @@
+-- `listing::near_edge` meets its contract.
 use Rattle.format.specs.Entry.{start}
 use Rattle.listing.specs.Summary.{nearEdge}
 use borrow.Author.Needs.{needs}

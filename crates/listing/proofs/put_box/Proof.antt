@@ -1,3 +1,4 @@
+-- `listing::put_box` meets its contract.
 use Rattle.text.proofs.Texts.{appended-both}
 use Rattle.listing.specs.Listing.{line, nameBox}
 use borrow.Author.Needs.{needs}

@@ -1,3 +1,4 @@
+-- `listing::put_line` meets its contract.
 use native.Mathlib.Omega.{arith}
 use Rattle.text.proofs.Texts.{appended-both}
 use Rattle.text.proofs.Digits.{decimal-most}

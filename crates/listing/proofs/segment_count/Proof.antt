@@ -1,3 +1,4 @@
+-- `listing::segment_count` meets its contract.
 use mathlib.Core.Path.{_∙_}
 use Rattle.format.proofs.Acceptance.{verdict-parts}
 use borrow.Author.Needs.{needs}

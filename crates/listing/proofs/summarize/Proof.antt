@@ -1,3 +1,4 @@
+-- `listing::summarize` meets its contract.
 use mathlib.Core.Path.{sym, _∙_}
 use Rattle.listing.proofs.Texts.{summary-by, figures-held}
 use Rattle.listing.specs.Summary.{summaryAnswer}

@@ -1,3 +1,4 @@
+-- `listing::summary_of` meets its contract.
 use Rattle.listing.specs.Figures.{summaryBy}
 use Rattle.listing.proofs.summary_of.Statement.{statement}
 use Rattle.listing.proofs.summary_of.Tie as tie

@@ -1,3 +1,4 @@
+-- `listing::unshifted` meets its contract.
 use Rattle.entries.proofs.ReadBack.{read-back}
 use mathlib.Core.Path.{_∙_}
 use native.Mathlib.Omega.{arith}

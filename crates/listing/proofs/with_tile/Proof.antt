@@ -1,3 +1,4 @@
+-- `listing::with_tile` meets its contract.
 use mathlib.Core.Path.{sym, _∙_}
 use native.Mathlib.Omega.{arith}
 use Rattle.entries.proofs.EntryLaws.{dimensions-ok}

@@ -1,3 +1,4 @@
+-- `masks::chunk_at` meets its contract.
 use mathlib.Core.Path.{sym, _∙_}
 use borrow.Author.Needs.{needs}
 use Rattle.format.specs.Masks.{chunkAt}

@@ -1,3 +1,4 @@
+-- `masks::chunk_size` meets its contract.
 use borrow.Author.Needs.{needs}
 use Rattle.format.specs.Masks.{chunkSize}
 use Rattle.masks.proofs.chunk_size.Statement.{statement}

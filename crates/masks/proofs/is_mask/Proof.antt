@@ -1,3 +1,4 @@
+-- `masks::is_mask` meets its contract.
 use borrow.Author.Needs.{needs}
 use Rattle.format.specs.Masks.{isMask}
 use Rattle.format.specs.Names.{maskGuid}

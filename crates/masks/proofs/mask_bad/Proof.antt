@@ -1,3 +1,4 @@
+-- `masks::mask_bad` meets its contract.
 use native.Mathlib.Omega.{arith}
 use borrow.Author.Tests.{lt-ltb}
 use borrow.Author.Needs.{needs}

@@ -1,3 +1,4 @@
+-- `masks::mask_height` meets its contract.
 use borrow.Author.Needs.{needs}
 use Rattle.format.specs.Masks.{maskHeight}
 use Rattle.masks.proofs.mask_height.Statement.{statement}

@@ -1,3 +1,4 @@
+-- `masks::mask_refused` meets its contract.
 use borrow.Author.Needs.{needs}
 use Rattle.format.proofs.Flags.{flags}
 use Rattle.format.specs.Masks.{maskRefused}

@@ -1,3 +1,4 @@
+-- `masks::mask_shape` meets its contract.
 use borrow.Author.Needs.{needs}
 use Rattle.format.specs.Masks.{maskShape}
 use Rattle.masks.proofs.mask_shape.Statement.{statement}

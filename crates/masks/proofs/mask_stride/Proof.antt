@@ -1,3 +1,4 @@
+-- `masks::mask_stride` meets its contract.
 use borrow.Author.Needs.{needs}
 use Rattle.format.specs.Masks.{maskStride}
 use Rattle.masks.proofs.mask_stride.Statement.{statement}

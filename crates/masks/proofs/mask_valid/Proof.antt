@@ -1,3 +1,4 @@
+-- `masks::mask_valid` meets its contract.
 use Prim.Native.Nat.{_+_, _*_, _/_, _<_}
 use denote.Ref.{now}
 use native.Mathlib.Omega.{arith}

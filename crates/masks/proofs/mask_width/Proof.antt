@@ -1,3 +1,4 @@
+-- `masks::mask_width` meets its contract.
 use borrow.Author.Needs.{needs}
 use Rattle.format.specs.Masks.{maskWidth}
 use Rattle.masks.proofs.mask_width.Statement.{statement}

@@ -1,3 +1,4 @@
+-- `parts::attachment_data` meets its contract.
 use denote.Ref.{now}
 use Rattle.parts.proofs.Within.{same-within, data-within}
 use borrow.Author.Needs.{needs}

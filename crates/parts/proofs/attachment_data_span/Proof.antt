@@ -1,3 +1,4 @@
+-- `parts::attachment_data_span` meets its contract.
 use mathlib.Core.Path.{sym, _∙_}
 use Rattle.format.specs.Records.{attachmentData}
 use Rattle.parts.proofs.Answers.{span-refused, span-found}

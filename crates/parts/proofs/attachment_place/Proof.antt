@@ -1,3 +1,4 @@
+-- `parts::attachment_place` meets its contract.
 use native.Mathlib.Omega.{arith}
 use Rattle.format.specs.File.{attachmentDirectoryPosition}
 use Rattle.format.specs.Attachments.{attachmentEntry, attachmentPosition}

@@ -1,3 +1,4 @@
+-- `parts::common_attachment_span` meets its contract.
 use mathlib.Core.Path.{sym, _∙_}
 use Rattle.format.specs.Records.{commonAttachment}
 use Rattle.parts.proofs.Answers.{span-refused, span-found}

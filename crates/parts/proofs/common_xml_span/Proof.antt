@@ -1,3 +1,4 @@
+-- `parts::common_xml_span` meets its contract.
 use mathlib.Core.Path.{sym, _∙_}
 use Rattle.format.specs.Records.{commonXml}
 use Rattle.parts.proofs.Answers.{span-refused, span-found}

@@ -1,3 +1,4 @@
+-- `parts::data_span` meets its contract.
 use native.Mathlib.Omega.{arith}
 use Rattle.format.specs.Attachments.{attachmentDataSize}
 use Rattle.format.specs.Records.{attachmentDataSpan}

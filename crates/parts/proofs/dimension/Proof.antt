@@ -1,3 +1,4 @@
+-- `parts::dimension` meets its contract.
 use native.Mathlib.Omega.{arith}
 use mathlib.Core.Path.{sym, _∙_}
 use Rattle.format.specs.Records.{dimensionAnswer}

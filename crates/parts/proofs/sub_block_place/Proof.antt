@@ -1,3 +1,4 @@
+-- `parts::sub_block_place` meets its contract.
 use native.Mathlib.Omega.{arith}
 use Rattle.format.specs.Entry.{filePosition}
 use Rattle.parts.proofs.Numbered.{tile-there}

@@ -1,3 +1,4 @@
+-- `parts::tile` meets its contract.
 use mathlib.Core.Path.{sym, _∙_}
 use Rattle.format.specs.Records.{tileAnswer, tileOf}
 use Rattle.parts.proofs.Numbered.{judged-at}

@@ -1,3 +1,4 @@
+-- `parts::tile_attachment` meets its contract.
 use denote.Ref.{now}
 use Rattle.parts.proofs.Within.{same-within, attachment-within}
 use borrow.Author.Needs.{needs}

@@ -1,3 +1,4 @@
+-- `parts::tile_attachment_span` meets its contract.
 use mathlib.Core.Path.{sym, _∙_}
 use Rattle.format.specs.Records.{tileAttachment}
 use Rattle.parts.proofs.Numbered.{judged-at}

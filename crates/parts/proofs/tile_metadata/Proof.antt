@@ -1,3 +1,4 @@
+-- `parts::tile_metadata` meets its contract.
 use denote.Ref.{now}
 use Rattle.parts.proofs.Within.{same-within, metadata-within}
 use borrow.Author.Needs.{needs}

@@ -1,3 +1,4 @@
+-- `parts::tile_metadata_span` meets its contract.
 use mathlib.Core.Path.{sym, _∙_}
 use Rattle.format.specs.Records.{tileMetadata}
 use Rattle.parts.proofs.Numbered.{judged-at}

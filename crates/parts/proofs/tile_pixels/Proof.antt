@@ -1,3 +1,4 @@
+-- `parts::tile_pixels` meets its contract.
 use denote.Ref.{now}
 use Rattle.parts.proofs.Within.{same-within, pixels-within}
 use borrow.Author.Needs.{needs}

@@ -1,3 +1,4 @@
+-- `selection::is_free` meets its contract.
 use Rattle.format.proofs.Flags.{flags}
 use Rattle.selection.specs.Select.{free}
 use Rattle.selection.proofs.is_free.Statement.{statement}

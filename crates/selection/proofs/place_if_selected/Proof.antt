@@ -1,3 +1,4 @@
+-- `selection::place_if_selected` meets its contract.
 use Rattle.format.proofs.Flags.{flags}
 use borrow.Author.Needs.{needs}
 use Rattle.selection.proofs.place_if_selected.Statement.{statement}

@@ -1,3 +1,4 @@
+-- `selection::select` meets its contract.
 use Prim.Native.Nat.{_-_}
 use native.Mathlib.Omega.{arith}
 use Rattle.format.specs.Entry.{nextEntry}

@@ -1,3 +1,4 @@
+-- `selection::starts_there` meets its contract.
 use Rattle.format.proofs.Flags.{flags}
 use Rattle.selection.specs.Select.{startsThere}
 use borrow.Author.Needs.{needs}

@@ -1,3 +1,4 @@
+-- `selection::tile_start` meets its contract.
 use mathlib.Core.Path.{sym, _∙_}
 use native.Mathlib.Omega.{arith}
 use Rattle.format.specs.Entry.{start}

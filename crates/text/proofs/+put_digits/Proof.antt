@@ -1,3 +1,4 @@
+-- `text::+put_digits` meets its contract.
 use Prim.Native.Nat.{ℕ, _<_}
 use native.Mathlib.Nat.{pos-of-ne-zero}
 use native.Mathlib.Omega.{arith}

@@ -1,3 +1,4 @@
+-- `text::empty` meets its contract.
 use mathlib.Core.Path.{refl}
 use native.Mathlib.Omega.{arith}
 use Rattle.text.specs.Text.{textOf}

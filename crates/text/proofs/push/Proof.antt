@@ -1,3 +1,4 @@
+-- `text::push` meets its contract.
 use borrow.Author.Needs.{needs}
 use Rattle.text.proofs.Texts.{appended-byte}
 use Rattle.text.proofs.push.Statement.{statement}

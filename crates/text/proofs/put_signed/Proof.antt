@@ -1,3 +1,4 @@
+-- `text::put_signed` meets its contract.
 use Prim.Native.Nat.{_^_}
 use borrow.Author.Needs.{needs}
 use borrow.Author.Tests.{lt-ltb, le-ltb}
