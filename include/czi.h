@@ -1,9 +1,10 @@
 /* Reads CZI microscope files (ZISRAW): judges one, hands out its parts and records, lists it, and composes its planes.
  *
  * A file is lent as its bytes, a pointer and a length. Any bytes and any number get an answer: nothing has to be
- * checked before a call, and no call changes a byte of the file. Only a target and a map are lent to be written.
+ * checked before a call, and no call changes a byte of the file. Lent to be written are a target, a map and the arrays
+ * of a record: a refused call changes none of them.
  *
- * Every function but czi_list returns the number of the refusal, 0 where there is none. What stands behind an
+ * Every function but czi_list returns the number of the refusal, 0 where there is none. A single number behind an
  * out-pointer is part of the answer: it is written always, and is 0 where there is nothing to say.
  *   place   where the refusal is, as a byte offset in the file; 0 where there is none.
  * Each question judges the whole file first: a file that czi_judge refuses is refused so by all of them (but that
@@ -23,7 +24,7 @@
  * and of a composer, after those of the file; crates/question/specs says when:
  *   20 window            21 asked pixel      22 lent too short     23 a tile's type
  *
- * Each function is proved to give exactly what its contract says (crates/czi/src/lib.rt; what the contracts cite is
+ * Each function is proved to give exactly what its contract says (crates/czi/src; what the contracts cite is
  * in crates/czi/specs). Nothing checks this header against them.
  *
  * Built by `rt staticlib czi`, linked as  cc -Iinclude yours.c target/staticlib/libczi.a
@@ -68,7 +69,8 @@ uint32_t czi_common_xml(const uint8_t *file, size_t file_len,
 uint32_t czi_common_attachment(const uint8_t *file, size_t file_len,
                                uint64_t *place, uint64_t *start, uint64_t *length);
 
-/* ---- The tile record, as 22 numbers and 3 signed ones. All are 0 where refused. */
+/* ---- The tile record, as 22 numbers and 3 signed ones, in two arrays that are lent. A refused call leaves both as they
+ * were. */
 
 /* What stands where in numbers. Starts are offsets in the file. */
 enum {
@@ -127,8 +129,8 @@ uint32_t czi_summary(const uint8_t *file, size_t file_len, uint64_t *place,
 
 /* ---- The listing: lines of plain ASCII text, each ended by a newline.
  *
- * text is to CZI_TEXT bytes. The text's length is returned, and the bytes behind it are 0.
- * A refusal is in the text, 30 for a file of over 65,536 bytes too. */
+ * text is to CZI_TEXT bytes, which are the answer, all of them written always: the text, whose length is returned, and
+ * zeros behind it. A refusal is in the text, 30 for a file of over 65,536 bytes too. */
 enum { CZI_TEXT = 192 };
 
 uint64_t czi_list(const uint8_t *file, size_t file_len, uint8_t *text);
