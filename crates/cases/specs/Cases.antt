@@ -4,6 +4,7 @@ use mathlib.Core.Path.{_≡_, refl}
 use mathlib.Core.List.{List, [], _∷_, _++_}
 use mathlib.Core.Bool.{Bool, true, false}
 use lib.ListN.{length, replicate, take}
+use Rattle.format.specs.Scan.{scanOf}
 use Rattle.format.specs.Bytes.{anyOf, anyBelow, allBelow, leastBelow, u32At, u64At, biased, sameAt, sameRange}
 use Rattle.format.specs.Names.{nameFile, nameDirectory, nameSubBlock, nameMetadata, nameAttachment, nameAttachmentDirectory, nameDeleted, markTile, containerMarker, maskGuid}
 use Rattle.format.specs.Checks.{rowsBelow}
@@ -11,7 +12,7 @@ use Rattle.format.specs.Segments.{allocatedSize, usedSize, room, nextSegment, l
 use Rattle.format.specs.File.{major, filePart, directoryPosition, metadataPosition, updatePending, attachmentDirectoryPosition, namesNone, namesNoneBut0, fileRows}
 use Rattle.format.specs.Entry.{pixelType, filePosition, entryPart, compression, dimensionCount, letter, start, size, storedField, stored, nextEntry, headBad, letterBad, tooFar, isPlane, sizeBad, dimensionBad, hasLetter, repeats, closesPlane, dimensionsBad, letterIndex, letterPlace, pixelBytes}
 use Rattle.format.specs.SubBlock.{metadataSize, attachmentSize, dataSize, fixedPart, copyBad, subBlockBad, pixelsSize, contentsBad, metadataPlace, pixelsPlace, attachmentPlace}
-use Rattle.format.specs.Masks.{isContainer, chunkSize, nextChunk, chunkBad, isMask, maskBad, maskRefused, maskWidth, maskHeight, maskStride, representation, chunkRows, chunksRows, maskByte, maskValid}
+use Rattle.format.specs.Masks.{isContainer, hasChunks, chunkSize, nextChunk, chunkBad, isMask, maskBad, maskRefused, maskWidth, maskHeight, maskStride, representation, chunkRows, chunksRows, maskByte, maskValid}
 use Rattle.format.specs.Directory.{entryCount, roomEnd, tileCount, entryPlace, directoryBad, headRows, tileRows, subBlockRows, attachmentRows, entryRows, directoryRows}
 use Rattle.format.specs.Attachments.{metadataRows, attachmentsRows}
 use Rattle.format.specs.Rules.{checks, verdict}
@@ -26,7 +27,7 @@ use Rattle.plane.specs.Paint.{bitIn, bit, pack, paint, mark, clear}
 use Rattle.plane.specs.Turns.{Kind, plain, quick, turn, run, below, insert, bottomFirst}
 use Rattle.plane.specs.Turns as Turns
 use Rattle.selection.specs.Select.{askedStart, tileStart, free, startsThere, selects}
-use Rattle.tiles.specs.FileTile.{rankOf, rectangle, covers, meets, tileOf, fileTile, tilesBelow}
+use Rattle.tiles.specs.FileTile.{rankOf, rectangle, covers, meets, entryTile, fileTile, tilesBelow}
 use Rattle.question.specs.Question.{windowBad, pixelBad, lentBad, askRows, typeBad, agreeRows}
 use Rattle.question.specs.Call.{Asked, callVerdict, selected, targetAfter, mapAfter}
 use Rattle.question.specs.declared.Masks.{Masks}
@@ -119,7 +120,7 @@ fileTwo n one m two =
 -- a question with no start, background 7, for a Gray8 window of one row, by that masks choice
 unfoldable pub rowAt : Masks → List ℕ → ℤ → ℕ → Asked
 rowAt masks file left width = record {
-  file = file;
+  scan = scanOf file;
   starts = [];
   anyScene = false;
   frame = record { «pixel_type» = 0; left = left; top = pos 0; width = width; height = 1; masks = masks };
@@ -142,7 +143,7 @@ pub data Answer : Type 0 where
   painted : List ℕ → List ℕ → Answer
 
 abbrev pub answer : Question → Answer
-answer (judge bs) = verdict-is (verdict bs)
+answer (judge bs) = verdict-is (verdict (scanOf bs))
 answer (fixed n) = number (fixedPart n)
 answer (valid mask x y) = flag (maskValid mask 0 x y)
 answer (plane k masks file left width) =
@@ -200,5 +201,5 @@ cases =
     []
 
 pub all-right : AllRight cases
-unfolding little segment fileSegment file288 dimension1 entry1 file19 mask1 dimensionOf entryOf blockOf wide8 fileWide masked5 fileMasked fileTwo rowAt sum tab bitIn bit pack paint mark clear turn run Turns.start below insert bottomFirst askedStart tileStart free startsThere selects rankOf rectangle covers meets tileOf fileTile tilesBelow windowBad pixelBad lentBad askRows typeBad agreeRows callVerdict selected targetAfter mapAfter isPyramid maskOf maskFrom maskShape anyOf anyBelow allBelow leastBelow u32At u64At biased sameAt sameRange nameFile nameDirectory nameSubBlock nameMetadata nameAttachment nameAttachmentDirectory nameDeleted markTile containerMarker maskGuid rowsBelow allocatedSize usedSize room nextSegment lengthBad nameBad allocatedBad usedBad endBad sizesBad roleBad segmentRows walkRows walkedFrom walked segmentsRows member walkedAs major filePart directoryPosition metadataPosition updatePending attachmentDirectoryPosition namesNone namesNoneBut0 fileRows pixelType filePosition entryPart compression dimensionCount letter start size storedField stored nextEntry headBad letterBad tooFar isPlane sizeBad dimensionBad hasLetter repeats closesPlane dimensionsBad letterIndex letterPlace pixelBytes metadataSize attachmentSize dataSize fixedPart copyBad subBlockBad pixelsSize contentsBad metadataPlace pixelsPlace attachmentPlace isContainer chunkSize nextChunk chunkBad isMask maskBad maskRefused maskWidth maskHeight maskStride representation chunkRows chunksRows maskByte maskValid entryCount roomEnd tileCount entryPlace directoryBad headRows tileRows subBlockRows attachmentRows entryRows directoryRows metadataRows attachmentsRows checks verdict
+unfolding little segment fileSegment file288 dimension1 entry1 file19 mask1 dimensionOf entryOf blockOf wide8 fileWide masked5 fileMasked fileTwo rowAt sum tab bitIn bit pack paint mark clear turn run Turns.start below insert bottomFirst askedStart tileStart free startsThere selects rankOf rectangle covers meets entryTile fileTile tilesBelow windowBad pixelBad lentBad askRows typeBad agreeRows callVerdict selected targetAfter mapAfter isPyramid maskOf maskFrom maskShape anyOf anyBelow allBelow leastBelow u32At u64At biased sameAt sameRange nameFile nameDirectory nameSubBlock nameMetadata nameAttachment nameAttachmentDirectory nameDeleted markTile containerMarker maskGuid rowsBelow allocatedSize usedSize room nextSegment lengthBad nameBad allocatedBad usedBad endBad sizesBad roleBad segmentRows walkRows walkedFrom walked segmentsRows member walkedAs major filePart directoryPosition metadataPosition updatePending attachmentDirectoryPosition namesNone namesNoneBut0 fileRows pixelType filePosition entryPart compression dimensionCount letter start size storedField stored nextEntry headBad letterBad tooFar isPlane sizeBad dimensionBad hasLetter repeats closesPlane dimensionsBad letterIndex letterPlace pixelBytes metadataSize attachmentSize dataSize fixedPart copyBad subBlockBad pixelsSize contentsBad metadataPlace pixelsPlace attachmentPlace isContainer hasChunks chunkSize nextChunk chunkBad isMask maskBad maskRefused maskWidth maskHeight maskStride representation chunkRows chunksRows maskByte maskValid entryCount roomEnd tileCount entryPlace directoryBad headRows tileRows subBlockRows attachmentRows entryRows directoryRows metadataRows attachmentsRows checks verdict
 all-right = (refl, (refl, (refl, (refl, (refl, (refl, (refl, (refl, (refl, (refl, (refl, (refl, (refl, (refl, (refl, (refl, (refl, (refl, (refl, (refl, (refl, tt)))))))))))))))))))))

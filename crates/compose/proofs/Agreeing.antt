@@ -7,6 +7,7 @@ use native.Mathlib.Omega.{arith}
 use lib.ListN.{getD}
 use lib.Dec.{eqb}
 use borrow.Author.Tests.{ne-eqb, eqb-false}
+use Rattle.format.specs.Scan.{scanOf}
 use Rattle.format.specs.Checks.{Check, row, first, rowsBelow}
 use Rattle.format.specs.Entry.{filePosition}
 use Rattle.format.specs.Directory.{tileCount, entryPlace}
@@ -23,7 +24,7 @@ use Rattle.compose.specs.Steps.{chosenIn, Chosen}
 abbrev pub agreeRow : List ℕ → List ℕ → Rect → ℕ → ℕ → List Check
 agreeRow bs table w t k = row 23 (entryPlace bs k) (cond (chosenIn table k) (typeBad bs (windowOf w) t (entryPlace bs k)) false) ∷ []
 
-module _ (bs table : List ℕ) (c : Chosen bs table) (k : ℕ) (h : k < tileCount bs) where
+module _ (bs table : List ℕ) (c : Chosen (scanOf bs) table) (k : ℕ) (h : k < tileCount bs) where
   -- what the table has is a judged entry's place, or 0
   chosen-some : (getD table k 0 ≡ 0 → ⊥) → chosenIn table k ≡ true
   chosen-some n = rw (ne-eqb (getD table k 0) 0 n)
@@ -32,7 +33,7 @@ module _ (bs table : List ℕ) (c : Chosen bs table) (k : ℕ) (h : k < tileCoun
   table-place n = c .place k h (chosen-some n)
 
   pub table-judged : (getD table k 0 ≡ 0 → ⊥) → Judged bs (getD table k 0) bs (filePosition bs (getD table k 0))
-  table-judged n = rw (table-place n) (tiled bs (c .accepted) .tile k h)
+  table-judged n = rw (table-place n) (tiled (scanOf bs) (c .accepted) .tile k h)
 
   pub table-listed : (getD table k 0 ≡ 0 → ⊥) → Listed bs (getD table k 0)
   table-listed n = table-judged n .filled .agreed .placed .listed

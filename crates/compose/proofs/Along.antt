@@ -4,6 +4,7 @@ use mathlib.Core.Path.{_≡_, sym, ap, _∙_}
 use mathlib.Core.List.{List, map}
 use mathlib.Core.Bool.{Bool, false}
 use native.Mathlib.Omega.{arith}
+use Rattle.format.specs.Scan.{Scan}
 use Rattle.format.specs.Entry.{filePosition}
 use Rattle.format.specs.Directory.{entryPlace}
 use Rattle.plane.specs.Tiles.{Tile, Window, area, givesAt}
@@ -17,22 +18,22 @@ use Rattle.compose.specs.Steps.{chosenIn, takesTurn, keysBelow, tileOfKe
 use Rattle.compose.proofs.KeyTiles.{key-tiles, turn-tiles, turn-order, meetsWindow, file-meets}
 
 -- a tile of an entry that does not meet the window gives none of its pixels
-apart-entry : (bs : List ℕ) (on : Bool) (w : Window) (k : ℕ) → meets (rectangle bs (entryPlace bs k)) w ≡ false → 1 ≤ w .width → (p : ℕ) → p < area w → givesAt w (fileTile bs on k) p ≡ false
+apart-entry : (sc : Scan) (on : Bool) (w : Window) (k : ℕ) → meets (rectangle (sc .file) (entryPlace (sc .file) k)) w ≡ false → 1 ≤ w .width → (p : ℕ) → p < area w → givesAt w (fileTile sc on k) p ≡ false
 unfolding fileTile
-apart-entry bs on w k e h p l = gives-none bs on k (entryPlace bs k) (filePosition bs (entryPlace bs k)) w e h p l
+apart-entry sc on w k e h p l = gives-none (sc .file) on k (entryPlace (sc .file) k) (filePosition (sc .file) (entryPlace (sc .file) k)) w e h p l
 
-module _ (bs : List ℕ) (on : Bool) (table : List ℕ) (w : Window) where
-  apart : (n : ℕ) → n ≤ 4096 → 1 ≤ w .width → Apart w (meetsWindow bs on table w) (tilesBelow n bs on (chosenIn table))
+module _ (sc : Scan) (on : Bool) (table : List ℕ) (w : Window) where
+  apart : (n : ℕ) → n ≤ 4096 → 1 ≤ w .width → Apart w (meetsWindow sc on table w) (tilesBelow n sc on (chosenIn table))
   apart n h wide t i e p l =
-      let j = tiles-entry bs on (chosenIn table) n i in
+      let j = tiles-entry sc on (chosenIn table) n i in
       let few = j .below in
-      let off : meets (rectangle bs (entryPlace bs (j .number))) w ≡ false = sym (file-meets bs on table w (j .number) (omega arith)) ∙ ap (meetsWindow bs on table w) (sym (j .tile)) ∙ e in
-      ap (λ (s : Tile). givesAt w s p) (j .tile) ∙ apart-entry bs on w (j .number) off wide p l
+      let off : meets (rectangle (sc .file) (entryPlace (sc .file) (j .number))) w ≡ false = sym (file-meets sc on table w (j .number) (omega arith)) ∙ ap (meetsWindow sc on table w) (sym (j .tile)) ∙ e in
+      ap (λ (s : Tile). givesAt w s p) (j .tile) ∙ apart-entry sc on w (j .number) off wide p l
 
   pub along : (k : Kind) (b : ℕ) (bg t m : List ℕ) (n : ℕ) → n ≤ 4096 → Room w b t m
-      → run k w b (turnOrder k (map (tileOfKey bs on) (keysBelow n bs table w))) (start w b bg t m) ≡ compose k w b bg (tilesBelow n bs on (chosenIn table)) t m
+      → run k w b (turnOrder k (map (tileOfKey sc on) (keysBelow n (sc .file) table w))) (start w b bg t m) ≡ compose k w b bg (tilesBelow n sc on (chosenIn table)) t m
   along k b bg t m n h r =
-      ap (λ (l : List Tile). run k w b (turnOrder k l) (start w b bg t m)) (key-tiles bs on table w n h)
-      ∙ ap (λ (l : List Tile). run k w b l (start w b bg t m)) (turn-order k (tilesBelow n bs on (takesTurn bs table w)))
-      ∙ ap (λ (l : List Tile). compose k w b bg l t m) (turn-tiles bs on table w n h)
-      ∙ sym (skip-compose w b (meetsWindow bs on table w) k bg (tilesBelow n bs on (chosenIn table)) t m (tiles-ranked bs on (chosenIn table) n h) r (apart n h (r .wide)))
+      ap (λ (l : List Tile). run k w b (turnOrder k l) (start w b bg t m)) (key-tiles sc on table w n h)
+      ∙ ap (λ (l : List Tile). run k w b l (start w b bg t m)) (turn-order k (tilesBelow n sc on (takesTurn (sc .file) table w)))
+      ∙ ap (λ (l : List Tile). compose k w b bg l t m) (turn-tiles sc on table w n h)
+      ∙ sym (skip-compose w b (meetsWindow sc on table w) k bg (tilesBelow n sc on (chosenIn table)) t m (tiles-ranked sc on (chosenIn table) n h) r (apart n h (r .wide)))

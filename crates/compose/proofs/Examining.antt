@@ -9,6 +9,7 @@ use lib.ListN.{length, getD}
 use lib.Dec.{eqb}
 use lib.IntN.{ℤ}
 use borrow.Author.Tests.{eqb-true, eqb-false, not-false, not-true}
+use Rattle.format.specs.Scan.{Scan}
 use Rattle.format.specs.Bytes.{allBelow}
 use Rattle.format.specs.Checks.{Check, first, rowsBelow}
 use Rattle.format.specs.Entry.{pixelType, isPyramid}
@@ -41,35 +42,35 @@ use Rattle.compose.proofs.Agreeing.{agreeRow}
 
 -- ---- the table of a selection chooses as the starts do
 
-selected-whole : (bs : List ℕ) (starts : List ℤ) (anyScene : Bool) (e : ℕ) → selects bs starts anyScene e ≡ true → isPyramid bs e ≡ false
+selected-whole : (sc : Scan) (starts : List ℤ) (anyScene : Bool) (e : ℕ) → selects (sc .file) starts anyScene e ≡ true → isPyramid (sc .file) e ≡ false
 unfolding selects
-selected-whole bs starts anyScene e h = go (isPyramid bs e) (allBelow 26 (λ i. startsThere bs e starts anyScene (65 + i))) h
+selected-whole sc starts anyScene e h = go (isPyramid (sc .file) e) (allBelow 26 (λ i. startsThere (sc .file) e starts anyScene (65 + i))) h
   where
     go : (b s : Bool) → cond b false s ≡ true → b ≡ false
     go true s h = absurd (true≢false (sym h))
     go false s h = refl
 
-module _ (bs : List ℕ) (starts : List ℤ) (anyScene : Bool) (before table : List ℕ) (n : ℕ) (accepted : verdict bs ≡ Accepted) (size : length before ≡ 4096) (s : Selection bs starts anyScene before table n) where
-  here : (k : ℕ) → k < tileCount bs → k < n
+module _ (sc : Scan) (starts : List ℤ) (anyScene : Bool) (before table : List ℕ) (n : ℕ) (accepted : verdict sc ≡ Accepted) (size : length before ≡ 4096) (s : Selection (sc .file) starts anyScene before table n) where
+  here : (k : ℕ) → k < tileCount (sc .file) → k < n
   here k h = rw (s .count-is) h
 
   some : (k : ℕ) → chosenIn table k ≡ true → getD table k 0 ≡ 0 → ⊥
   some k h = eqb-false (getD table k 0) 0 (not-true _ h)
 
-  as-starts : (k : ℕ) → k < tileCount bs → chosenIn table k ≡ selects bs starts anyScene (entryPlace bs k)
+  as-starts : (k : ℕ) → k < tileCount (sc .file) → chosenIn table k ≡ selects (sc .file) starts anyScene (entryPlace (sc .file) k)
   as-starts k h = go (eqb (getD table k 0) 0) refl
     where
-      go : (b : Bool) → eqb (getD table k 0) 0 ≡ b → not b ≡ selects bs starts anyScene (entryPlace bs k)
-      go true e = sym (not-chosen bs starts anyScene before table n s k (here k h) (eqb-true (getD table k 0) 0 e))
-      go false e = sym (is-chosen bs starts anyScene before table n s k (here k h) (eqb-false (getD table k 0) 0 e) .0)
+      go : (b : Bool) → eqb (getD table k 0) 0 ≡ b → not b ≡ selects (sc .file) starts anyScene (entryPlace (sc .file) k)
+      go true e = sym (not-chosen (sc .file) starts anyScene before table n s k (here k h) (eqb-true (getD table k 0) 0 e))
+      go false e = sym (is-chosen (sc .file) starts anyScene before table n s k (here k h) (eqb-false (getD table k 0) 0 e) .0)
 
-  pub selects-table : Selects bs starts anyScene table
+  pub selects-table : Selects sc starts anyScene table
   selects-table = record {
     table-is = record {
       accepted = accepted;
       size = s .size-is ∙ size;
-      place = λ k h c. is-chosen bs starts anyScene before table n s k (here k h) (some k c) .1;
-      whole = λ k h c. selected-whole bs starts anyScene (entryPlace bs k) (sym (as-starts k h) ∙ c);
+      place = λ k h c. is-chosen (sc .file) starts anyScene before table n s k (here k h) (some k c) .1;
+      whole = λ k h c. selected-whole sc starts anyScene (entryPlace (sc .file) k) (sym (as-starts k h) ∙ c);
     };
     as-asked = as-starts;
   }
@@ -81,11 +82,11 @@ unfolding rowsBelow
 rows-ext zero f g h = refl
 rows-ext (suc n) f g h = rw (rows-ext n f g (λ k l. h k (omega arith)), h n (omega arith))
 
-pub agreed : (bs : List ℕ) (starts : List ℤ) (anyScene : Bool) (table : List ℕ) (n : ℕ) (w : Rect) (f : Frame) (v : Verdict) → Selects bs starts anyScene table → n ≡ tileCount bs
-    → windowOf w ≡ Question.windowOf f → v ≡ first (rowsBelow n (agreeRow bs table w (f .«pixel_type»))) → v ≡ first (agreeRows bs (λ k. selects bs starts anyScene (entryPlace bs k)) f)
+pub agreed : (sc : Scan) (starts : List ℤ) (anyScene : Bool) (table : List ℕ) (n : ℕ) (w : Rect) (f : Frame) (v : Verdict) → Selects sc starts anyScene table → n ≡ tileCount (sc .file)
+    → windowOf w ≡ Question.windowOf f → v ≡ first (rowsBelow n (agreeRow (sc .file) table w (f .«pixel_type»))) → v ≡ first (agreeRows (sc .file) (λ k. selects (sc .file) starts anyScene (entryPlace (sc .file) k)) f)
 unfolding agreeRows
-agreed bs starts anyScene table n w f v s e i j =
-    j ∙ ap first (ap (λ (m : ℕ). rowsBelow m (agreeRow bs table w (f .«pixel_type»))) e ∙ rows-ext (tileCount bs) _ _ (λ k h. rw (i, s .as-asked k h)))
+agreed sc starts anyScene table n w f v s e i j =
+    j ∙ ap first (ap (λ (m : ℕ). rowsBelow m (agreeRow (sc .file) table w (f .«pixel_type»))) e ∙ rows-ext (tileCount (sc .file)) _ _ (λ k h. rw (i, s .as-asked k h)))
 
 -- ---- the window as the code has it
 
@@ -98,15 +99,15 @@ edges-fit w v e h =
     record { right = omega (arith, p .right); bottom = omega (arith, p .bottom) }
 
 -- a tile that meets the window, where 23 is not given
-same-type : (bs : List ℕ) (w : Window) (t e : ℕ) → meets (rectangle bs e) w ≡ true → typeBad bs w t e ≡ false → not (eqb (pixelType bs e) t) ≡ false
+same-type : (sc : Scan) (w : Window) (t e : ℕ) → meets (rectangle (sc .file) e) w ≡ true → typeBad (sc .file) w t e ≡ false → not (eqb (pixelType (sc .file) e) t) ≡ false
 unfolding typeBad
-same-type bs w t e h k = rw h at k
+same-type sc w t e h k = rw h at k
 
 -- ---- an accepted call
 
-module _ (a : Asked) (t m table : List ℕ) (w : Rect) (e : windowOf w ≡ askedWindow a) (s : Selects (a .file) (a .starts) (a .anyScene) table)
+module _ (a : Asked) (t m table : List ℕ) (w : Rect) (e : windowOf w ≡ askedWindow a) (s : Selects (a .scan) (a .starts) (a .anyScene) table)
     (v : callVerdict a (length t) (length m) ≡ Accepted) where
-  pub plane-room : PlaneRoom t m (a .file) table (a .background) w (a .frame .«pixel_type»)
+  pub plane-room : PlaneRoom t m (a .scan) table (a .background) w (a .frame .«pixel_type»)
   plane-room =
       let ok = call-ok a (length t) (length m) v in
       let p = window-ok (askedWindow a) (ok .window) in
@@ -116,28 +117,28 @@ module _ (a : Asked) (t m table : List ℕ) (w : Rect) (e : windowOf w ≡ asked
         room = rw e (room a t m v);
         small = rw e (mul-le-mul (p .low) (p .narrow));
         ground = pixel-ok (a .frame .«pixel_type») (a .background) (ok .pixel) .1;
-        typed = λ k h c. typed k (chosenIn table k) (meets (rectangle (a .file) (entryPlace (a .file) k)) (windowOf w)) refl refl c (ok .agree k h) (s .as-asked k h);
+        typed = λ k h c. typed k (chosenIn table k) (meets (rectangle (a .scan .file) (entryPlace (a .scan .file) k)) (windowOf w)) refl refl c (ok .agree k h) (s .as-asked k h);
       }
     where
-      typed : (k : ℕ) (b c : Bool) → chosenIn table k ≡ b → meets (rectangle (a .file) (entryPlace (a .file) k)) (windowOf w) ≡ c → cond b c false ≡ true
-          → cond (Call.chosen a k) (typeBad (a .file) (askedWindow a) (a .frame .«pixel_type») (entryPlace (a .file) k)) false ≡ false
+      typed : (k : ℕ) (b c : Bool) → chosenIn table k ≡ b → meets (rectangle (a .scan .file) (entryPlace (a .scan .file) k)) (windowOf w) ≡ c → cond b c false ≡ true
+          → cond (Call.chosen a k) (typeBad (a .scan .file) (askedWindow a) (a .frame .«pixel_type») (entryPlace (a .scan .file) k)) false ≡ false
           → chosenIn table k ≡ Call.chosen a k
-          → pixelType (a .file) (entryPlace (a .file) k) ≡ a .frame .«pixel_type»
-      typed k true true i j x y z = eqb-true _ _ (not-false _ (same-type (a .file) (askedWindow a) (a .frame .«pixel_type») (entryPlace (a .file) k) (rw (← e) j) (rw (sym z ∙ i) at y)))
+          → pixelType (a .scan .file) (entryPlace (a .scan .file) k) ≡ a .frame .«pixel_type»
+      typed k true true i j x y z = eqb-true _ _ (not-false _ (same-type (a .scan) (askedWindow a) (a .frame .«pixel_type») (entryPlace (a .scan .file) k) (rw (← e) j) (rw (sym z ∙ i) at y)))
       typed k true false i j x y z = absurd (true≢false (sym x))
       typed k false c i j x y z = absurd (true≢false (sym x))
 
   -- the run that was painted is the call's
   module _ (k : Kind) (on : Bool) (o : on ≡ masksOn (a .frame .masks)) (t′ m′ : List ℕ) (c : Counts)
-      (d : PlaneDone k t m (a .file) table (a .background) w (a .frame .«pixel_type») on t′ m′ c) where
+      (d : PlaneDone k t m (a .scan) table (a .background) w (a .frame .«pixel_type») on t′ m′ c) where
     whole-call : _≡_ {A = Painting} (record { target = t′; map = m′; stored = c .stored }) (painted k a t m)
     unfolding selected
     whole-call =
         d .painting
-        ∙ ap (λ (v : Window). compose k v (askedBytes a) (a .background) (tilesBelow (tileCount (a .file)) (a .file) on (chosenIn table)) t m) e
-        ∙ ap (λ (b : Bool). compose k (askedWindow a) (askedBytes a) (a .background) (tilesBelow (tileCount (a .file)) (a .file) b (chosenIn table)) t m) o
+        ∙ ap (λ (v : Window). compose k v (askedBytes a) (a .background) (tilesBelow (tileCount (a .scan .file)) (a .scan) on (chosenIn table)) t m) e
+        ∙ ap (λ (b : Bool). compose k (askedWindow a) (askedBytes a) (a .background) (tilesBelow (tileCount (a .scan .file)) (a .scan) b (chosenIn table)) t m) o
         ∙ ap (λ l. compose k (askedWindow a) (askedBytes a) (a .background) l t m)
-        (tiles-ext (tileCount (a .file)) (a .file) (masksOn (a .frame .masks)) (chosenIn table) (Call.chosen a) (s .as-asked))
+        (tiles-ext (tileCount (a .scan .file)) (a .scan) (masksOn (a .frame .masks)) (chosenIn table) (Call.chosen a) (s .as-asked))
 
     pub done : Answered k a t m t′ m′ (Ans.Done (c .covered) (c .stored))
     unfolding answer targetAfter mapAfter

@@ -8,6 +8,7 @@ use native.Mathlib.Numerals.{add-one}
 use lib.ListN.{length, getD}
 use lib.Dec.{eqb}
 use borrow.Author.Tests.{eqb-false}
+use Rattle.format.specs.Scan.{scanOf}
 use Rattle.format.specs.Directory.{tileCount, entryPlace}
 use Rattle.plane.specs.Tiles.{Window}
 use Rattle.turns.specs.TileOf.{windowOf}
@@ -30,8 +31,8 @@ keys-rising (suc n) bs table w h = go (takesTurn bs table w n) (keys-rising n bs
   where
     new : (i : ℕ) → i < length (keysBelow n bs table w) → getD (keysBelow n bs table w) i 0 ≡ rankOf bs n (entryPlace bs n) → ⊥
     new i k e =
-        let q = key-at bs true table w n (keysBelow n bs table w) (keys-in bs true table w n (omega arith)) i k .within in
-        let s : getD (keysBelow n bs table w) i 0 % 4096 ≡ n = ap (λ (x : ℕ). x % 4096) e ∙ rank-entry bs n (entryPlace bs n) (omega arith) in
+        let q = key-at (scanOf bs) true table w n (keysBelow n bs table w) (keys-in (scanOf bs) true table w n (omega arith)) i k .within in
+        let s : getD (keysBelow n bs table w) i 0 % 4096 ≡ n = ap (λ (x : ℕ). x % 4096) e ∙ rank-entry (scanOf bs) n (entryPlace bs n) (omega arith) in
         omega (arith, q, s)
 
     go : (b : Bool) → Rising (keysBelow n bs table w) → Rising (cond b (insertKey (rankOf bs n (entryPlace bs n)) (keysBelow n bs table w)) (keysBelow n bs table w))
@@ -45,9 +46,9 @@ module _ (bs table : List ℕ) (w : Rect) where
   unfolding keysBelow
   gather-start keys e = record { size = e; few = omega arith; keys-are = refl }
 
-  module _ (c : Chosen bs table) (edges : Edges w) (k : ℕ) (h : k < tileCount bs) (keys : List ℕ) (count : ℕ) (g : Gathered k bs table (windowOf w) keys count) where
+  module _ (c : Chosen (scanOf bs) table) (edges : Edges w) (k : ℕ) (h : k < tileCount bs) (keys : List ℕ) (count : ℕ) (g : Gathered k bs table (windowOf w) keys count) where
     below : k < 4096
-    below = omega (arith, tiled bs (c .accepted) .few)
+    below = omega (arith, tiled (scanOf bs) (c .accepted) .few)
 
     pub add-room : AddRoom bs keys count k (getD table k 0) w
     add-room = record {

@@ -6,31 +6,32 @@ use mathlib.Core.Bool.{Bool, true, false, cond}
 use native.Mathlib.Omega.{arith}
 use lib.ListN.{length, getD}
 use lib.Dec.{leb}
+use Rattle.format.specs.Scan.{Scan}
 use Rattle.format.specs.Directory.{entryPlace}
 use Rattle.plane.specs.Tiles.{Tile, Window}
 use Rattle.plane.specs.Turns.{Kind, plain, quick, below, insert, bottomFirst, order}
 use Rattle.plane.proofs.Skip.{keep}
 use Rattle.keys.specs.Keys.{insertKey}
-use Rattle.tiles.specs.FileTile.{rankOf, rectangle, meets, tileOf, fileTile, tilesBelow}
+use Rattle.tiles.specs.FileTile.{rankOf, rectangle, meets, entryTile, fileTile, tilesBelow}
 use Rattle.question.proofs.Ranks.{rank-entry}
 use Rattle.compose.specs.Steps.{chosenIn, takesTurn, keysBelow, tileOfKey, turnOrder}
 
 -- ---- ranks
 
-pub file-rank : (bs : List ℕ) (on : Bool) (k : ℕ) → fileTile bs on k .rank ≡ rankOf bs k (entryPlace bs k)
-unfolding fileTile tileOf
-file-rank bs on k = refl
+pub file-rank : (sc : Scan) (on : Bool) (k : ℕ) → fileTile sc on k .rank ≡ rankOf (sc .file) k (entryPlace (sc .file) k)
+unfolding fileTile entryTile
+file-rank sc on k = refl
 
 below-is : (s t : Tile) (a b : ℕ) → s .rank ≡ a → t .rank ≡ b → below s t ≡ leb a b
 unfolding below
 below-is s t a b e f = rw (e, f)
 
-module _ (bs : List ℕ) (on : Bool) (table : List ℕ) (w : Window) where
+module _ (sc : Scan) (on : Bool) (table : List ℕ) (w : Window) where
   -- what a key of an entry below n is: the rank of that entry's tile, which takes a turn
   pub record Key (n q : ℕ) : Type 0 where
     pub within : q % 4096 < n
-    pub rank : rankOf bs (q % 4096) (entryPlace bs (q % 4096)) ≡ q
-    pub turn : takesTurn bs table w (q % 4096) ≡ true
+    pub rank : rankOf (sc .file) (q % 4096) (entryPlace (sc .file) (q % 4096)) ≡ q
+    pub turn : takesTurn (sc .file) table w (q % 4096) ≡ true
 
   abbrev pub Keys : ℕ → List ℕ → Type 0
   Keys n [] = Unit {0}
@@ -52,17 +53,17 @@ module _ (bs : List ℕ) (on : Bool) (table : List ℕ) (w : Window) where
       go true i = (k, ks)
       go false i = (ks .0, i)
 
-  new-key : (n : ℕ) → n < 4096 → takesTurn bs table w n ≡ true → Key (suc n) (rankOf bs n (entryPlace bs n))
-  new-key n h t = let e = rank-entry bs n (entryPlace bs n) h in record { within = omega (arith, e); rank = rw e; turn = rw e t }
+  new-key : (n : ℕ) → n < 4096 → takesTurn (sc .file) table w n ≡ true → Key (suc n) (rankOf (sc .file) n (entryPlace (sc .file) n))
+  new-key n h t = let e = rank-entry sc n (entryPlace (sc .file) n) h in record { within = omega (arith, e); rank = rw e; turn = rw e t }
 
-  pub keys-in : (n : ℕ) → n ≤ 4096 → Keys n (keysBelow n bs table w)
+  pub keys-in : (n : ℕ) → n ≤ 4096 → Keys n (keysBelow n (sc .file) table w)
   unfolding keysBelow
   keys-in zero h = tt
-  keys-in (suc n) h = go (takesTurn bs table w n) refl (laters n (keysBelow n bs table w) (keys-in n (omega arith)))
+  keys-in (suc n) h = go (takesTurn (sc .file) table w n) refl (laters n (keysBelow n (sc .file) table w) (keys-in n (omega arith)))
     where
-      go : (b : Bool) → takesTurn bs table w n ≡ b → Keys (suc n) (keysBelow n bs table w)
-          → Keys (suc n) (cond b (insertKey (rankOf bs n (entryPlace bs n)) (keysBelow n bs table w)) (keysBelow n bs table w))
-      go true e ks = inserted (suc n) (rankOf bs n (entryPlace bs n)) (keysBelow n bs table w) (new-key n (omega arith) e) ks
+      go : (b : Bool) → takesTurn (sc .file) table w n ≡ b → Keys (suc n) (keysBelow n (sc .file) table w)
+          → Keys (suc n) (cond b (insertKey (rankOf (sc .file) n (entryPlace (sc .file) n)) (keysBelow n (sc .file) table w)) (keysBelow n (sc .file) table w))
+      go true e ks = inserted (suc n) (rankOf (sc .file) n (entryPlace (sc .file) n)) (keysBelow n (sc .file) table w) (new-key n (omega arith) e) ks
       go false e ks = ks
 
   -- the key at a place
@@ -73,61 +74,61 @@ module _ (bs : List ℕ) (on : Bool) (table : List ℕ) (w : Window) where
 
   -- ---- the tiles along the keys
 
-  key-rank : (n q : ℕ) → Key n q → tileOfKey bs on q .rank ≡ q
-  key-rank n q k = file-rank bs on (q % 4096) ∙ k .rank
+  key-rank : (n q : ℕ) → Key n q → tileOfKey sc on q .rank ≡ q
+  key-rank n q k = file-rank sc on (q % 4096) ∙ k .rank
 
-  map-insert : (n r : ℕ) (l : List ℕ) → Key n r → Keys n l → map (tileOfKey bs on) (insertKey r l) ≡ insert (tileOfKey bs on r) (map (tileOfKey bs on) l)
+  map-insert : (n r : ℕ) (l : List ℕ) → Key n r → Keys n l → map (tileOfKey sc on) (insertKey r l) ≡ insert (tileOfKey sc on r) (map (tileOfKey sc on) l)
   unfolding insertKey insert
   map-insert n r [] k ks = refl
   map-insert n r (q ∷ l) k ks =
-      let e : below (tileOfKey bs on r) (tileOfKey bs on q) ≡ leb r q = below-is _ _ r q (key-rank n r k) (key-rank n q (ks .0)) in
+      let e : below (tileOfKey sc on r) (tileOfKey sc on q) ≡ leb r q = below-is _ _ r q (key-rank n r k) (key-rank n q (ks .0)) in
       rw e (go (leb r q) (map-insert n r l k (ks .1)))
     where
-      go : (b : Bool) → map (tileOfKey bs on) (insertKey r l) ≡ insert (tileOfKey bs on r) (map (tileOfKey bs on) l)
-          → map (tileOfKey bs on) (cond b (r ∷ q ∷ l) (q ∷ insertKey r l))
-          ≡ cond b (tileOfKey bs on r ∷ tileOfKey bs on q ∷ map (tileOfKey bs on) l) (tileOfKey bs on q ∷ insert (tileOfKey bs on r) (map (tileOfKey bs on) l))
+      go : (b : Bool) → map (tileOfKey sc on) (insertKey r l) ≡ insert (tileOfKey sc on r) (map (tileOfKey sc on) l)
+          → map (tileOfKey sc on) (cond b (r ∷ q ∷ l) (q ∷ insertKey r l))
+          ≡ cond b (tileOfKey sc on r ∷ tileOfKey sc on q ∷ map (tileOfKey sc on) l) (tileOfKey sc on q ∷ insert (tileOfKey sc on r) (map (tileOfKey sc on) l))
       go true i = refl
-      go false i = ap (λ (x : List Tile). tileOfKey bs on q ∷ x) i
+      go false i = ap (λ (x : List Tile). tileOfKey sc on q ∷ x) i
 
-  pub key-tiles : (n : ℕ) → n ≤ 4096 → map (tileOfKey bs on) (keysBelow n bs table w) ≡ bottomFirst (tilesBelow n bs on (takesTurn bs table w))
+  pub key-tiles : (n : ℕ) → n ≤ 4096 → map (tileOfKey sc on) (keysBelow n (sc .file) table w) ≡ bottomFirst (tilesBelow n sc on (takesTurn (sc .file) table w))
   unfolding keysBelow tilesBelow bottomFirst
   key-tiles zero h = refl
-  key-tiles (suc n) h = go (takesTurn bs table w n) refl (key-tiles n (omega arith))
+  key-tiles (suc n) h = go (takesTurn (sc .file) table w n) refl (key-tiles n (omega arith))
     where
-      go : (b : Bool) → takesTurn bs table w n ≡ b → map (tileOfKey bs on) (keysBelow n bs table w) ≡ bottomFirst (tilesBelow n bs on (takesTurn bs table w))
-          → map (tileOfKey bs on) (cond b (insertKey (rankOf bs n (entryPlace bs n)) (keysBelow n bs table w)) (keysBelow n bs table w))
-          ≡ bottomFirst (cond b (fileTile bs on n ∷ tilesBelow n bs on (takesTurn bs table w)) (tilesBelow n bs on (takesTurn bs table w)))
+      go : (b : Bool) → takesTurn (sc .file) table w n ≡ b → map (tileOfKey sc on) (keysBelow n (sc .file) table w) ≡ bottomFirst (tilesBelow n sc on (takesTurn (sc .file) table w))
+          → map (tileOfKey sc on) (cond b (insertKey (rankOf (sc .file) n (entryPlace (sc .file) n)) (keysBelow n (sc .file) table w)) (keysBelow n (sc .file) table w))
+          ≡ bottomFirst (cond b (fileTile sc on n ∷ tilesBelow n sc on (takesTurn (sc .file) table w)) (tilesBelow n sc on (takesTurn (sc .file) table w)))
       go true e i =
-          map-insert (suc n) (rankOf bs n (entryPlace bs n)) (keysBelow n bs table w) (new-key n (omega arith) e) (laters n (keysBelow n bs table w) (keys-in n (omega arith)))
-          ∙ rw (rank-entry bs n (entryPlace bs n) (omega arith), i)
+          map-insert (suc n) (rankOf (sc .file) n (entryPlace (sc .file) n)) (keysBelow n (sc .file) table w) (new-key n (omega arith) e) (laters n (keysBelow n (sc .file) table w) (keys-in n (omega arith)))
+          ∙ rw (rank-entry sc n (entryPlace (sc .file) n) (omega arith), i)
       go false e i = i
 
   -- ---- the tiles that take a turn are the chosen ones that meet the window
 
   -- by its rank a tile shows its entry, and so its rectangle
   abbrev pub meetsWindow : Tile → Bool
-  meetsWindow t = meets (rectangle bs (entryPlace bs (t .rank % 4096))) w
+  meetsWindow t = meets (rectangle (sc .file) (entryPlace (sc .file) (t .rank % 4096))) w
 
-  pub file-meets : (k : ℕ) → k < 4096 → meetsWindow (fileTile bs on k) ≡ meets (rectangle bs (entryPlace bs k)) w
-  file-meets k h = rw (file-rank bs on k, rank-entry bs k (entryPlace bs k) h)
+  pub file-meets : (k : ℕ) → k < 4096 → meetsWindow (fileTile sc on k) ≡ meets (rectangle (sc .file) (entryPlace (sc .file) k)) w
+  file-meets k h = rw (file-rank sc on k, rank-entry sc k (entryPlace (sc .file) k) h)
 
-  pub turn-tiles : (n : ℕ) → n ≤ 4096 → tilesBelow n bs on (takesTurn bs table w) ≡ keep meetsWindow (tilesBelow n bs on (chosenIn table))
+  pub turn-tiles : (n : ℕ) → n ≤ 4096 → tilesBelow n sc on (takesTurn (sc .file) table w) ≡ keep meetsWindow (tilesBelow n sc on (chosenIn table))
   unfolding tilesBelow keep
   turn-tiles zero h = refl
-  turn-tiles (suc n) h = go (chosenIn table n) (meets (rectangle bs (entryPlace bs n)) w) (file-meets n (omega arith)) (turn-tiles n (omega arith))
+  turn-tiles (suc n) h = go (chosenIn table n) (meets (rectangle (sc .file) (entryPlace (sc .file) n)) w) (file-meets n (omega arith)) (turn-tiles n (omega arith))
     where
-      go : (b m : Bool) → meetsWindow (fileTile bs on n) ≡ m → tilesBelow n bs on (takesTurn bs table w) ≡ keep meetsWindow (tilesBelow n bs on (chosenIn table))
-          → cond (cond b m false) (fileTile bs on n ∷ tilesBelow n bs on (takesTurn bs table w)) (tilesBelow n bs on (takesTurn bs table w))
-          ≡ keep meetsWindow (cond b (fileTile bs on n ∷ tilesBelow n bs on (chosenIn table)) (tilesBelow n bs on (chosenIn table)))
-      go true true e i = rw e (ap (λ (x : List Tile). fileTile bs on n ∷ x) i)
+      go : (b m : Bool) → meetsWindow (fileTile sc on n) ≡ m → tilesBelow n sc on (takesTurn (sc .file) table w) ≡ keep meetsWindow (tilesBelow n sc on (chosenIn table))
+          → cond (cond b m false) (fileTile sc on n ∷ tilesBelow n sc on (takesTurn (sc .file) table w)) (tilesBelow n sc on (takesTurn (sc .file) table w))
+          ≡ keep meetsWindow (cond b (fileTile sc on n ∷ tilesBelow n sc on (chosenIn table)) (tilesBelow n sc on (chosenIn table)))
+      go true true e i = rw e (ap (λ (x : List Tile). fileTile sc on n ∷ x) i)
       go true false e i = rw e i
       go false m e i = i
 
 -- only the choice below n counts
-pub tiles-ext : (n : ℕ) (bs : List ℕ) (on : Bool) (c d : ℕ → Bool) → ((k : ℕ) → k < n → c k ≡ d k) → tilesBelow n bs on c ≡ tilesBelow n bs on d
+pub tiles-ext : (n : ℕ) (sc : Scan) (on : Bool) (c d : ℕ → Bool) → ((k : ℕ) → k < n → c k ≡ d k) → tilesBelow n sc on c ≡ tilesBelow n sc on d
 unfolding tilesBelow
-tiles-ext zero bs on c d h = refl
-tiles-ext (suc n) bs on c d h = rw (h n (omega arith), tiles-ext n bs on c d (λ k l. h k (omega arith)))
+tiles-ext zero sc on c d h = refl
+tiles-ext (suc n) sc on c d h = rw (h n (omega arith), tiles-ext n sc on c d (λ k l. h k (omega arith)))
 
 -- each kind's order along the lowest first is its order of the tiles
 pub turn-order : (k : Kind) (ts : List Tile) → turnOrder k (bottomFirst ts) ≡ order k ts

@@ -7,6 +7,7 @@ use native.Mathlib.Omega.{arith}
 use native.Mathlib.Nat.{mul-le-mul}
 use lib.ListN.{length, getD, take, drop, length-map, length-drop, length-reverse, drop-of-length-le}
 use lib.Seq.{getD-take, length-take-le, take-all}
+use Rattle.format.specs.Scan.{Scan}
 use Rattle.format.specs.Entry.{pixelBytes}
 use Rattle.format.specs.Directory.{tileCount, entryPlace}
 use Rattle.plane.specs.Tiles.{Tile, Window, area}
@@ -27,43 +28,43 @@ getD-map f [] i h = absurd (omega arith)
 getD-map f (x ∷ l) zero h = refl
 getD-map f (x ∷ l) (suc i) h = getD-map f l i (omega arith)
 
-turn-chosen : (bs table : List ℕ) (w : Window) (k : ℕ) → takesTurn bs table w k ≡ true → chosenIn table k ≡ true
-turn-chosen bs table w k e = go (chosenIn table k) (meets (rectangle bs (entryPlace bs k)) w) e
+turn-chosen : (sc : Scan) (table : List ℕ) (w : Window) (k : ℕ) → takesTurn (sc .file) table w k ≡ true → chosenIn table k ≡ true
+turn-chosen sc table w k e = go (chosenIn table k) (meets (rectangle (sc .file) (entryPlace (sc .file) k)) w) e
   where
     go : (b m : Bool) → cond b m false ≡ true → b ≡ true
     go true m e = refl
     go false m e = absurd (true≢false (sym e))
 
-module _ (t₀ m₀ bs table keys : List ℕ) (count : ℕ) (w : Rect) (pixel : ℕ) (r : RunRoom t₀ m₀ bs table keys count w pixel) (on : Bool) (q : Bool) where
+module _ (t₀ m₀ : List ℕ) (sc : Scan) (table keys : List ℕ) (count : ℕ) (w : Rect) (pixel : ℕ) (r : RunRoom t₀ m₀ sc table keys count w pixel) (on : Bool) (q : Bool) where
   -- the start of the run, its tiles, lowest first
   abbrev pub lent : Painting
   lent = record { target = t₀; map = m₀; stored = 0 }
 
   abbrev pub tiles : List Tile
-  tiles = map (tileOfKey bs on) (take count keys)
+  tiles = map (tileOfKey sc on) (take count keys)
 
   few : count ≤ 4096
-  few = omega (arith, r .gathered .few, tiled bs (r .chosen .accepted) .few)
+  few = omega (arith, r .gathered .few, tiled sc (r .chosen .accepted) .few)
 
   taken : length (take count keys) ≡ count
   taken = length-take-le count keys (omega (arith, few, r .gathered .size))
 
   pub tiles-count : length tiles ≡ count
-  tiles-count = length-map (take count keys) (tileOfKey bs on) ∙ taken
+  tiles-count = length-map (take count keys) (tileOfKey sc on) ∙ taken
 
   -- ---- the entry of the key at i
 
-  key : (i : ℕ) → i < count → Key bs on table (windowOf w) (tileCount bs) (getD keys i 0)
+  key : (i : ℕ) → i < count → Key sc on table (windowOf w) (tileCount (sc .file)) (getD keys i 0)
   key i h =
-      subst (Key bs on table (windowOf w) (tileCount bs)) (getD-take count keys i 0 h)
-      (key-at bs on table (windowOf w) (tileCount bs) (take count keys)
-      (rw (r .gathered .keys-are) (keys-in bs on table (windowOf w) (tileCount bs) (tiled bs (r .chosen .accepted) .few)))
+      subst (Key sc on table (windowOf w) (tileCount (sc .file))) (getD-take count keys i 0 h)
+      (key-at sc on table (windowOf w) (tileCount (sc .file)) (take count keys)
+      (rw (r .gathered .keys-are) (keys-in sc on table (windowOf w) (tileCount (sc .file)) (tiled sc (r .chosen .accepted) .few)))
       i (omega (arith, taken)))
 
   chosen : (i : ℕ) → i < count → chosenIn table (getD keys i 0 % 4096) ≡ true
-  chosen i h = turn-chosen bs table (windowOf w) (getD keys i 0 % 4096) (key i h .turn)
+  chosen i h = turn-chosen sc table (windowOf w) (getD keys i 0 % 4096) (key i h .turn)
 
-  place : (i : ℕ) → i < count → getD table (getD keys i 0 % 4096) 0 ≡ entryPlace bs (getD keys i 0 % 4096)
+  place : (i : ℕ) → i < count → getD table (getD keys i 0 % 4096) 0 ≡ entryPlace (sc .file) (getD keys i 0 % 4096)
   place i h = r .chosen .place (getD keys i 0 % 4096) (key i h .within) (chosen i h)
 
   -- ---- the run so far, over the tiles done
@@ -94,13 +95,13 @@ module _ (t₀ m₀ bs table keys : List ℕ) (count : ℕ) (w : Rect) (pixel : 
         let f : length done * area (windowOf w) ≤ 4096 * 4294967296 = mul-le-mul d (r .small) in
         omega (arith, a, e, f)
 
-    pub key-room : (i : ℕ) → i < count → (length table ≡ 4096) × PaintRoom t m bs (getD table (getD keys i 0 % 4096) 0) w
+    pub key-room : (i : ℕ) → i < count → (length table ≡ 4096) × PaintRoom t m (sc .file) (getD table (getD keys i 0 % 4096) 0) w
     key-room i h =
         let k = getD keys i 0 % 4096 in
         let typed = r .typed k (key i h .within) (key i h .turn) in (
           r .chosen .size,
           rw (place i h) (record {
-            judged = tiled bs (r .chosen .accepted) .tile k (key i h .within);
+            judged = tiled sc (r .chosen .accepted) .tile k (key i h .within);
             whole = r .chosen .whole k (key i h .within) (chosen i h);
             room = rw typed (room-kept (windowOf w) (pixelBytes pixel) kept (r .room));
             right = omega (arith, r .edges .right);
@@ -109,9 +110,9 @@ module _ (t₀ m₀ bs table keys : List ℕ) (count : ℕ) (w : Rect) (pixel : 
         )
 
     -- one turn more
-    turned : (i : ℕ) → i < count → (t′ m′ : List ℕ) (n : ℕ) → Painted t m bs on (getD table (getD keys i 0 % 4096) 0) w q t′ m′ n
+    turned : (i : ℕ) → i < count → (t′ m′ : List ℕ) (n : ℕ) → Painted t m (sc .file) on (getD table (getD keys i 0 % 4096) 0) w q t′ m′ n
         → _≡_ {A = Painting} (record { target = t′; map = m′; stored = stored + n })
-        (turn (kindOf q) (windowOf w) (pixelBytes pixel) (tileOfKey bs on (getD keys i 0)) (run (kindOf q) (windowOf w) (pixelBytes pixel) done lent))
+        (turn (kindOf q) (windowOf w) (pixelBytes pixel) (tileOfKey sc on (getD keys i 0)) (run (kindOf q) (windowOf w) (pixelBytes pixel) done lent))
     unfolding fileTile
     turned i h t′ m′ n d =
         let k = getD keys i 0 % 4096 in
@@ -121,10 +122,10 @@ module _ (t₀ m₀ bs table keys : List ℕ) (count : ℕ) (w : Rect) (pixel : 
 
   -- ---- up the tiles, and down
 
-  tile-at : (i : ℕ) → i < count → getD tiles i noTile ≡ tileOfKey bs on (getD keys i 0)
-  tile-at i h = getD-map (tileOfKey bs on) (take count keys) i (omega (arith, taken)) ∙ ap (tileOfKey bs on) (getD-take count keys i 0 h)
+  tile-at : (i : ℕ) → i < count → getD tiles i noTile ≡ tileOfKey sc on (getD keys i 0)
+  tile-at i h = getD-map (tileOfKey sc on) (take count keys) i (omega (arith, taken)) ∙ ap (tileOfKey sc on) (getD-take count keys i 0 h)
 
-  module _ (i : ℕ) (h : i < count) (t m : List ℕ) (stored : ℕ) (t′ m′ : List ℕ) (n : ℕ) (d : Painted t m bs on (getD table (getD keys i 0 % 4096) 0) w q t′ m′ n) where
+  module _ (i : ℕ) (h : i < count) (t m : List ℕ) (stored : ℕ) (t′ m′ : List ℕ) (n : ℕ) (d : Painted t m (sc .file) on (getD table (getD keys i 0 % 4096) 0) w q t′ m′ n) where
     pub up-next : Painting-is (take i tiles) t m stored → Painting-is (take (i + 1) tiles) t′ m′ (stored + n)
     up-next p = record {
       run-is = turned (take i tiles) t m stored p i h t′ m′ n d ∙ sym (
@@ -154,7 +155,7 @@ module _ (t₀ m₀ bs table keys : List ℕ) (count : ℕ) (w : Rect) (pixel : 
   up-end t m stored p = p .run-is ∙ ap (λ (l : List Tile). run (kindOf q) (windowOf w) (pixelBytes pixel) l lent) (take-all count tiles (omega (arith, tiles-count)))
 
   -- a count that falls: the turn of the tile before j
-  pub down-from : (j : ℕ) → 0 < j → j ≤ count → (t m : List ℕ) (stored : ℕ) (t′ m′ : List ℕ) (n : ℕ) → Painted t m bs on (getD table (getD keys (j - 1) 0 % 4096) 0) w q t′ m′ n
+  pub down-from : (j : ℕ) → 0 < j → j ≤ count → (t m : List ℕ) (stored : ℕ) (t′ m′ : List ℕ) (n : ℕ) → Painted t m (sc .file) on (getD table (getD keys (j - 1) 0 % 4096) 0) w q t′ m′ n
       → Painting-is (reverse (drop j tiles)) t m stored → Painting-is (reverse (drop (j - 1) tiles)) t′ m′ (stored + n)
   down-from j some most t m stored t′ m′ n d p =
       let e : j ≡ j - 1 + 1 = omega arith in

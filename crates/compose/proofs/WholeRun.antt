@@ -4,6 +4,7 @@ use mathlib.Core.Path.{_≡_, sym, ap, subst, _∙_}
 use mathlib.Core.List.{List, map}
 use mathlib.Core.Bool.{Bool}
 use lib.ListN.{length, take}
+use Rattle.format.specs.Scan.{Scan}
 use Rattle.format.specs.Entry.{pixelBytes}
 use Rattle.format.specs.Directory.{tileCount}
 use Rattle.plane.specs.Paint.{ones}
@@ -21,15 +22,15 @@ use Rattle.question.proofs.Ranks.{tiles-ranked}
 use Rattle.compose.specs.Steps.{chosenIn, Gathered, tileOfKey, turnOrder, RunRoom, RunDone, PlaneRoom, Begun}
 use Rattle.compose.proofs.Along.{along}
 
-module _ (t m bs table background : List ℕ) (w : Rect) (pixel : ℕ) (p : PlaneRoom t m bs table background w pixel) (t₁ m₁ : List ℕ) (b : Begun t m background w pixel t₁ m₁) where
+module _ (t m : List ℕ) (sc : Scan) (table background : List ℕ) (w : Rect) (pixel : ℕ) (p : PlaneRoom t m sc table background w pixel) (t₁ m₁ : List ℕ) (b : Begun t m background w pixel t₁ m₁) where
   -- the start has room for the turns
   begun-room : Room (windowOf w) (pixelBytes pixel) t₁ m₁
   begun-room =
       subst (λ (s : Painting). Room (windowOf w) (pixelBytes pixel) (s .target) (s .map)) (sym b)
       (start-room (windowOf w) (pixelBytes pixel) background t m (p .room))
 
-  module _ (n : ℕ) (e : n ≡ tileCount bs) (keys : List ℕ) (count : ℕ) (g : Gathered n bs table (windowOf w) keys count) where
-    pub run-room : RunRoom t₁ m₁ bs table keys count w pixel
+  module _ (n : ℕ) (e : n ≡ tileCount (sc .file)) (keys : List ℕ) (count : ℕ) (g : Gathered n (sc .file) table (windowOf w) keys count) where
+    pub run-room : RunRoom t₁ m₁ sc table keys count w pixel
     run-room = record {
       chosen = p .chosen;
       gathered = rw e at g;
@@ -39,7 +40,7 @@ module _ (t m bs table background : List ℕ) (w : Rect) (pixel : ℕ) (p : Plan
       typed = p .typed;
     }
 
-    module _ (k : Kind) (on : Bool) (t₂ m₂ : List ℕ) (stored : ℕ) (d : RunDone k t₁ m₁ bs keys count w pixel on t₂ m₂ stored) where
+    module _ (k : Kind) (on : Bool) (t₂ m₂ : List ℕ) (stored : ℕ) (d : RunDone k t₁ m₁ sc keys count w pixel on t₂ m₂ stored) where
       -- the map still has room, for its ones to be counted
       pub map-room : area (windowOf w) ≤ 8 * length m₂
       map-room =
@@ -48,16 +49,16 @@ module _ (t m bs table background : List ℕ) (w : Rect) (pixel : ℕ) (p : Plan
           begun-room .map
 
       pub whole : _≡_ {A = Painting} (record { target = t₂; map = m₂; stored = stored })
-          (compose k (windowOf w) (pixelBytes pixel) background (tilesBelow (tileCount bs) bs on (chosenIn table)) t m)
+          (compose k (windowOf w) (pixelBytes pixel) background (tilesBelow (tileCount (sc .file)) sc on (chosenIn table)) t m)
       whole =
           d
-          ∙ ap (λ (s : Painting). run k (windowOf w) (pixelBytes pixel) (turnOrder k (map (tileOfKey bs on) (take count keys))) s) b
-          ∙ ap (λ (l : List ℕ). run k (windowOf w) (pixelBytes pixel) (turnOrder k (map (tileOfKey bs on) l)) (start (windowOf w) (pixelBytes pixel) background t m)) ((rw e at g) .keys-are)
-          ∙ along bs on table (windowOf w) k (pixelBytes pixel) background t m (tileCount bs) (tiled bs (p .chosen .accepted) .few) (p .room)
+          ∙ ap (λ (s : Painting). run k (windowOf w) (pixelBytes pixel) (turnOrder k (map (tileOfKey sc on) (take count keys))) s) b
+          ∙ ap (λ (l : List ℕ). run k (windowOf w) (pixelBytes pixel) (turnOrder k (map (tileOfKey sc on) l)) (start (windowOf w) (pixelBytes pixel) background t m)) ((rw e at g) .keys-are)
+          ∙ along sc on table (windowOf w) k (pixelBytes pixel) background t m (tileCount (sc .file)) (tiled sc (p .chosen .accepted) .few) (p .room)
 
     -- the quick composer's store count is the covered count
-    pub quick-covered : (on : Bool) (t₂ m₂ : List ℕ) (stored : ℕ) → RunDone quick t₁ m₁ bs keys count w pixel on t₂ m₂ stored → stored ≡ ones (area (windowOf w)) m₂
+    pub quick-covered : (on : Bool) (t₂ m₂ : List ℕ) (stored : ℕ) → RunDone quick t₁ m₁ sc keys count w pixel on t₂ m₂ stored → stored ≡ ones (area (windowOf w)) m₂
     quick-covered on t₂ m₂ stored d =
         let c = whole quick on t₂ m₂ stored d in
-        let q = demand3 (pixelBytes pixel) background (tilesBelow (tileCount bs) bs on (chosenIn table)) (tiles-ranked bs on (chosenIn table) (tileCount bs) (tiled bs (p .chosen .accepted) .few)) .quick-stores (windowOf w) t m (p .room) in
+        let q = demand3 (pixelBytes pixel) background (tilesBelow (tileCount (sc .file)) sc on (chosenIn table)) (tiles-ranked sc on (chosenIn table) (tileCount (sc .file)) (tiled sc (p .chosen .accepted) .few)) .quick-stores (windowOf w) t m (p .room) in
         ap (λ (s : Painting). s .stored) c ∙ q ∙ ap (λ (s : Painting). ones (area (windowOf w)) (s .map)) (sym c)

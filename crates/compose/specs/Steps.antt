@@ -6,6 +6,7 @@ use mathlib.Core.Bool.{Bool, true, false, cond, not}
 use lib.ListN.{length, getD, take}
 use lib.Dec.{eqb}
 use lib.IntN.{ℤ}
+use Rattle.format.specs.Scan.{Scan, scanOf}
 use Rattle.format.specs.Checks.{first}
 use Rattle.format.specs.Entry.{pixelType, pixelBytes, isPyramid}
 use Rattle.format.specs.Directory.{tileCount, entryPlace}
@@ -33,11 +34,11 @@ abbrev pub chosenIn : List ℕ → ℕ → Bool
 chosenIn table k = not (eqb (getD table k 0) 0)
 
 -- a table over an accepted file: no pyramid tile is chosen
-pub record Chosen (bs table : List ℕ) : Type 0 where
-  pub accepted : verdict bs ≡ Accepted
+pub record Chosen (sc : Scan) (table : List ℕ) : Type 0 where
+  pub accepted : verdict sc ≡ Accepted
   pub size : length table ≡ 4096
-  pub place : (k : ℕ) → k < tileCount bs → chosenIn table k ≡ true → getD table k 0 ≡ entryPlace bs k
-  pub whole : (k : ℕ) → k < tileCount bs → chosenIn table k ≡ true → isPyramid bs (entryPlace bs k) ≡ false
+  pub place : (k : ℕ) → k < tileCount (sc .file) → chosenIn table k ≡ true → getD table k 0 ≡ entryPlace (sc .file) k
+  pub whole : (k : ℕ) → k < tileCount (sc .file) → chosenIn table k ≡ true → isPyramid (sc .file) (entryPlace (sc .file) k) ≡ false
 
 -- a window whose edges fit
 pub record Edges (w : Rect) : Type 0 where
@@ -78,8 +79,8 @@ pub record Added (bs keys : List ℕ) (count k e : ℕ) (w : Rect) (keys′ : Li
 -- ---- turns
 
 -- the tile of a key: its entry number is the key's remainder by 4,096
-abbrev pub tileOfKey : List ℕ → Bool → ℕ → Tile
-tileOfKey bs on key = fileTile bs on (key % 4096)
+abbrev pub tileOfKey : Scan → Bool → ℕ → Tile
+tileOfKey sc on key = fileTile sc on (key % 4096)
 
 -- the tiles in the order of each kind's turns, along rising keys
 abbrev pub turnOrder : Kind → List Tile → List Tile
@@ -88,59 +89,59 @@ turnOrder quick l = reverse l
 
 -- what the turns along the first count keys may read and write: the table and the keys are those of a selection of the file's entries,
 -- every tile that takes a turn has the asked type, and the window has room
-pub record RunRoom (t m bs table keys : List ℕ) (count : ℕ) (w : Rect) (pixel : ℕ) : Type 0 where
-  pub chosen : Chosen bs table
-  pub gathered : Gathered (tileCount bs) bs table (windowOf w) keys count
+pub record RunRoom (t m : List ℕ) (sc : Scan) (table keys : List ℕ) (count : ℕ) (w : Rect) (pixel : ℕ) : Type 0 where
+  pub chosen : Chosen sc table
+  pub gathered : Gathered (tileCount (sc .file)) (sc .file) table (windowOf w) keys count
   pub edges : Edges w
   pub room : Room (windowOf w) (pixelBytes pixel) t m
   pub small : area (windowOf w) ≤ 4294967296
-  pub typed : (k : ℕ) → k < tileCount bs → takesTurn bs table (windowOf w) k ≡ true → pixelType bs (entryPlace bs k) ≡ pixel
+  pub typed : (k : ℕ) → k < tileCount (sc .file) → takesTurn (sc .file) table (windowOf w) k ≡ true → pixelType (sc .file) (entryPlace (sc .file) k) ≡ pixel
 
 -- target, map and store count after the turns of these tiles, one after the other
-abbrev pub RunDone : Kind → (t m bs keys : List ℕ) → ℕ → Rect → ℕ → Bool → (t′ m′ : List ℕ) → ℕ → Type 0
-RunDone k t m bs keys count w pixel on t′ m′ r =
+abbrev pub RunDone : Kind → (t m : List ℕ) (sc : Scan) (keys : List ℕ) → ℕ → Rect → ℕ → Bool → (t′ m′ : List ℕ) → ℕ → Type 0
+RunDone k t m sc keys count w pixel on t′ m′ r =
     _≡_ {A = Painting} (record { target = t′; map = m′; stored = r })
-    (run k (windowOf w) (pixelBytes pixel) (turnOrder k (map (tileOfKey bs on) (take count keys))) (record { target = t; map = m; stored = 0 }))
+    (run k (windowOf w) (pixelBytes pixel) (turnOrder k (map (tileOfKey sc on) (take count keys))) (record { target = t; map = m; stored = 0 }))
 
 -- ---- the whole of painting an accepted selection
 
 -- what painting may read and write: a selection whose tiles that meet the window have the asked type, and lent bytes with room
-pub record PlaneRoom (t m bs table background : List ℕ) (w : Rect) (pixel : ℕ) : Type 0 where
-  pub chosen : Chosen bs table
+pub record PlaneRoom (t m : List ℕ) (sc : Scan) (table background : List ℕ) (w : Rect) (pixel : ℕ) : Type 0 where
+  pub chosen : Chosen sc table
   pub edges : Edges w
   pub room : Room (windowOf w) (pixelBytes pixel) t m
   pub small : area (windowOf w) ≤ 4294967296
   pub ground : length background ≡ pixelBytes pixel
-  pub typed : (k : ℕ) → k < tileCount bs → takesTurn bs table (windowOf w) k ≡ true → pixelType bs (entryPlace bs k) ≡ pixel
+  pub typed : (k : ℕ) → k < tileCount (sc .file) → takesTurn (sc .file) table (windowOf w) k ≡ true → pixelType (sc .file) (entryPlace (sc .file) k) ≡ pixel
 
 -- the start: background, a zero map and a count of 0
 abbrev pub Begun : (t m background : List ℕ) → Rect → ℕ → (t′ m′ : List ℕ) → Type 0
 Begun t m background w pixel t′ m′ = _≡_ {A = Painting} (record { target = t′; map = m′; stored = 0 }) (start (windowOf w) (pixelBytes pixel) background t m)
 
-pub record PlaneDone (k : Kind) (t m bs table background : List ℕ) (w : Rect) (pixel : ℕ) (on : Bool) (t′ m′ : List ℕ) (r : Counts) : Type 0 where
+pub record PlaneDone (k : Kind) (t m : List ℕ) (sc : Scan) (table background : List ℕ) (w : Rect) (pixel : ℕ) (on : Bool) (t′ m′ : List ℕ) (r : Counts) : Type 0 where
   pub painting : _≡_ {A = Painting} (record { target = t′; map = m′; stored = r .stored })
-      (compose k (windowOf w) (pixelBytes pixel) background (tilesBelow (tileCount bs) bs on (chosenIn table)) t m)
+      (compose k (windowOf w) (pixelBytes pixel) background (tilesBelow (tileCount (sc .file)) sc on (chosenIn table)) t m)
   pub covered-is : r .covered ≡ ones (area (windowOf w)) m′
 
 -- ---- the whole of refusing: where it accepts, the table holds what the question's starts select
 
 abbrev pub asked : List ℕ → List ℤ → Bool → Frame → List ℕ → Asked
-asked bs starts anyScene f background = record { file = bs; starts = starts; anyScene = anyScene; frame = f; background = background }
+asked bs starts anyScene f background = record { scan = scanOf bs; starts = starts; anyScene = anyScene; frame = f; background = background }
 
 -- the table chooses as the starts do
-pub record Selects (bs : List ℕ) (starts : List ℤ) (anyScene : Bool) (table : List ℕ) : Type 0 where
-  pub table-is : Chosen bs table
-  pub as-asked : (k : ℕ) → k < tileCount bs → chosenIn table k ≡ selects bs starts anyScene (entryPlace bs k)
+pub record Selects (sc : Scan) (starts : List ℤ) (anyScene : Bool) (table : List ℕ) : Type 0 where
+  pub table-is : Chosen sc table
+  pub as-asked : (k : ℕ) → k < tileCount (sc .file) → chosenIn table k ≡ selects (sc .file) starts anyScene (entryPlace (sc .file) k)
 
 -- the rows of 23, of 20 to 23, of all
-pub record Agreed (bs : List ℕ) (starts : List ℤ) (anyScene : Bool) (f : Frame) (table : List ℕ) (r : Verdict) : Type 0 where
-  pub verdict-is : r ≡ first (agreeRows bs (λ k. selects bs starts anyScene (entryPlace bs k)) f)
-  pub selects-so : Selects bs starts anyScene table
+pub record Agreed (sc : Scan) (starts : List ℤ) (anyScene : Bool) (f : Frame) (table : List ℕ) (r : Verdict) : Type 0 where
+  pub verdict-is : r ≡ first (agreeRows (sc .file) (λ k. selects (sc .file) starts anyScene (entryPlace (sc .file) k)) f)
+  pub selects-so : Selects sc starts anyScene table
 
-pub record Asked23 (bs : List ℕ) (starts : List ℤ) (anyScene : Bool) (f : Frame) (background : List ℕ) (target map : ℕ) (table : List ℕ) (r : Verdict) : Type 0 where
-  pub verdict-is : r ≡ first (askRows f background target map ++ agreeRows bs (λ k. selects bs starts anyScene (entryPlace bs k)) f)
-  pub selects-so : r ≡ Accepted → Selects bs starts anyScene table
+pub record Asked23 (sc : Scan) (starts : List ℤ) (anyScene : Bool) (f : Frame) (background : List ℕ) (target map : ℕ) (table : List ℕ) (r : Verdict) : Type 0 where
+  pub verdict-is : r ≡ first (askRows f background target map ++ agreeRows (sc .file) (λ k. selects (sc .file) starts anyScene (entryPlace (sc .file) k)) f)
+  pub selects-so : r ≡ Accepted → Selects sc starts anyScene table
 
 pub record Examined (a : Asked) (target map : ℕ) (table : List ℕ) (r : Verdict) : Type 0 where
   pub verdict-is : r ≡ callVerdict a target map
-  pub selects-so : r ≡ Accepted → Selects (a .file) (a .starts) (a .anyScene) table
+  pub selects-so : r ≡ Accepted → Selects (a .scan) (a .starts) (a .anyScene) table

@@ -9,6 +9,7 @@ ghost use mathlib.Core.Bool.{Bool, true, false, cond, not};
 ghost use Prim.Native.Nat.{ℕ, _+_, _%_, _≤_, _<_, _^_};
 ghost use lib.ListN.{length, getD, take};
 ghost use lib.Dec.{eqb};
+ghost use Rattle.format.specs.Scan.{scanOf};
 ghost use Rattle.format.specs.Checks.{first, row, rowsBelow};
 ghost use Rattle.format.specs.Entry.{pixelType, pixelBytes};
 ghost use Rattle.format.specs.Directory.{tileCount, entryPlace};
@@ -52,7 +53,7 @@ fn disagrees(s: &[u8], e: u64, w: Rect, t: u64) -> bool
 
 // Refusal 23 over the chosen entries below n, in directory order.
 fn agree(s: &[u8], table: &[u64; 4096], n: u64, w: Rect, t: u64) -> Verdict
-    requires { ⌜ Chosen (now s) (now table) ⌝ }
+    requires { ⌜ Chosen (scanOf (now s)) (now table) ⌝ }
     requires { ⌜ (n ≡ tileCount (now s)) × Edges w ⌝ }
     ensures { λ r. ⌜ r ≡ first (rowsBelow n (λ k. row 23 (entryPlace (now (s .entry)) k) (cond (chosenIn (now (table .entry)) k) (typeBad (now (s .entry)) (windowOf w) t (entryPlace (now (s .entry)) k)) false) ∷ [])) ⌝ }
 {
@@ -90,7 +91,7 @@ fn add_key(s: &[u8], keys: &mut [u64; 4096], count: usize, k: u64, e: u64, w: Re
 
 // The keys of the entries below n that take a turn, rising; the result is how many there are.
 fn gather(s: &[u8], table: &[u64; 4096], n: u64, w: Rect, keys: &mut [u64; 4096]) -> usize
-    requires { ⌜ Chosen (now s) (now table) ⌝ }
+    requires { ⌜ Chosen (scanOf (now s)) (now table) ⌝ }
     requires { ⌜ (n ≡ tileCount (now s)) × Edges w ⌝ }
     requires { ⌜ length (now keys) ≡ 4096 ⌝ }
     ensures { λ r. ⌜ Gathered n (now (s .entry)) (now (table .entry)) (windowOf w) (now (keys .exit)) r ⌝ }
@@ -138,8 +139,8 @@ fn paint_up(
     t: u64,
     on: bool,
 ) -> u64
-    requires { ⌜ RunRoom (now target) (now map) (now s) (now table) (now keys) count w t ⌝ }
-    ensures { λ r. ⌜ RunDone plain (now (target .entry)) (now (map .entry)) (now (s .entry)) (now (keys .entry)) count w t on (now (target .exit)) (now (map .exit)) r ⌝ }
+    requires { ⌜ RunRoom (now target) (now map) (scanOf (now s)) (now table) (now keys) count w t ⌝ }
+    ensures { λ r. ⌜ RunDone plain (now (target .entry)) (now (map .entry)) (scanOf (now (s .entry))) (now (keys .entry)) count w t on (now (target .exit)) (now (map .exit)) r ⌝ }
 {
     let mut stored: u64 = 0;
     let mut i: usize = 0;
@@ -163,8 +164,8 @@ fn paint_down(
     t: u64,
     on: bool,
 ) -> u64
-    requires { ⌜ RunRoom (now target) (now map) (now s) (now table) (now keys) count w t ⌝ }
-    ensures { λ r. ⌜ RunDone quick (now (target .entry)) (now (map .entry)) (now (s .entry)) (now (keys .entry)) count w t on (now (target .exit)) (now (map .exit)) r ⌝ }
+    requires { ⌜ RunRoom (now target) (now map) (scanOf (now s)) (now table) (now keys) count w t ⌝ }
+    ensures { λ r. ⌜ RunDone quick (now (target .entry)) (now (map .entry)) (scanOf (now (s .entry))) (now (keys .entry)) count w t on (now (target .exit)) (now (map .exit)) r ⌝ }
 {
     let mut stored: u64 = 0;
     let mut i = count;
@@ -202,8 +203,8 @@ fn paint_plane(
     background: &[u8],
     quick: bool,
 ) -> Counts
-    requires { ⌜ PlaneRoom (now target) (now map) (now s) (now table) (now background) w t ⌝ }
-    ensures { λ r. ⌜ PlaneDone (kindOf quick) (now (target .entry)) (now (map .entry)) (now (s .entry)) (now (table .entry)) (now (background .entry)) w t on (now (target .exit)) (now (map .exit)) r ⌝ }
+    requires { ⌜ PlaneRoom (now target) (now map) (scanOf (now s)) (now table) (now background) w t ⌝ }
+    ensures { λ r. ⌜ PlaneDone (kindOf quick) (now (target .entry)) (now (map .entry)) (scanOf (now (s .entry))) (now (table .entry)) (now (background .entry)) w t on (now (target .exit)) (now (map .exit)) r ⌝ }
 {
     begin(target, map, w, t, background);
     let n = judge::tile_count(s);
@@ -231,9 +232,9 @@ fn examine_tiles(
     f: Frame,
     table: &mut [u64; 4096],
 ) -> Verdict
-    requires { ⌜ (verdict (now s) ≡ Accepted) × (length (now table) ≡ 4096) ⌝ }
+    requires { ⌜ (verdict (scanOf (now s)) ≡ Accepted) × (length (now table) ≡ 4096) ⌝ }
     requires { ⌜ windowBad (Question.windowOf f) ≡ false ⌝ }
-    ensures { λ r. ⌜ Agreed (now (s .entry)) (now (starts .entry)) «any_scene» f (now (table .exit)) r ⌝ }
+    ensures { λ r. ⌜ Agreed (scanOf (now (s .entry))) (now (starts .entry)) «any_scene» f (now (table .exit)) r ⌝ }
 {
     let n = selection::select(s, starts, any_scene, table);
     let w = ask::window_of(f);
@@ -252,8 +253,8 @@ fn examine_question(
     map: u64,
     table: &mut [u64; 4096],
 ) -> Verdict
-    requires { ⌜ (verdict (now s) ≡ Accepted) × (length (now table) ≡ 4096) ⌝ }
-    ensures { λ r. ⌜ Asked23 (now (s .entry)) (now (starts .entry)) «any_scene» f (now (background .entry)) target map (now (table .exit)) r ⌝ }
+    requires { ⌜ (verdict (scanOf (now s)) ≡ Accepted) × (length (now table) ≡ 4096) ⌝ }
+    ensures { λ r. ⌜ Asked23 (scanOf (now (s .entry))) (now (starts .entry)) «any_scene» f (now (background .entry)) target map (now (table .exit)) r ⌝ }
 {
     let v = ask::ask(f, background, target, map);
     match v {

@@ -7,12 +7,12 @@ use native.Mathlib.Omega.{arith}
 use lib.ListN.{length}
 use lib.Dec.{eqb, leb, ltb}
 use borrow.Author.Tests.{leb-true}
+use Rattle.format.specs.Scan.{scanOf}
 use Rattle.format.specs.Checks.{Check, row, first, rowsBelow, andThen, numberOf}
 use Rattle.format.specs.Segments.{nextSegment, lengthBad, segmentRows, walkRows, segmentsRows}
 use Rattle.format.specs.File.{directoryPosition, metadataPosition, attachmentDirectoryPosition, fileRows}
 use Rattle.format.specs.Entry.{filePosition, dimensionCount}
-use Rattle.format.specs.SubBlock.{metadataSize, metadataPlace}
-use Rattle.format.specs.Masks.{isContainer, isMask, nextChunk, chunkRows, chunksRows}
+use Rattle.format.specs.Masks.{hasChunks, isMask, nextChunk, chunkRows, chunksRows}
 use Rattle.format.specs.Directory.{tileCount, entryPlace, directoryBad, headRows, tileRows, subBlockRows, attachmentRows, entryRows, directoryRows}
 use Rattle.format.specs.Attachments.{metadataBad, metadataRows, attachmentEntryCount, attachmentEntry, attachmentDirectoryBad, attachmentCount, attachmentEntryRows, attachmentDirectoryRows, attachmentsRows}
 use Rattle.format.specs.Rules.{checks, verdict, tileVerdict, attachmentVerdict}
@@ -100,18 +100,18 @@ module _ (bs : List ℕ) where
 
   attachment-low : (ds : List ℕ) (e q : ℕ) → Low (attachmentRows ds e bs q)
   unfolding attachmentRows
-  attachment-low ds e q = low-either (isContainer bs (metadataPlace ds e q) (metadataSize bs q)) _ [] (chunks-low _ _ false _) none
+  attachment-low ds e q = low-either (hasChunks ds e bs q) _ [] (chunks-low _ _ false _) none
 
-  entry-low : (d e : ℕ) → Low (entryRows bs d e)
+  entry-low : (d e : ℕ) → Low (entryRows (scanOf bs) d e)
   unfolding entryRows headRows tileRows subBlockRows lows
   entry-low d e =
       let q = filePosition bs e in
       low-append (headRows bs d e) _ (low-all (headRows bs d e) refl)
-      (low-append (tileRows bs e) _ (low-all (tileRows bs e) refl)
+      (low-append (tileRows (scanOf bs) e) _ (low-all (tileRows (scanOf bs) e) refl)
       (low-append (subBlockRows bs e bs q) _ (low-all (subBlockRows bs e bs q) refl)
       (attachment-low bs e q)))
 
-  directory-low : Low (directoryRows bs)
+  directory-low : Low (directoryRows (scanOf bs))
   unfolding directoryRows lows
   directory-low =
       let d = directoryPosition bs in
@@ -132,33 +132,33 @@ module _ (bs : List ℕ) where
       (low-append (row 10 t (attachmentDirectoryBad bs t) ∷ []) _ (low-all (row 10 t (attachmentDirectoryBad bs t) ∷ []) refl)
       (low-below (attachmentEntryCount bs t) _ (λ k. low-all (attachmentEntryRows bs (attachmentEntry t k)) refl)))
 
-  checks-low : Low (checks bs)
+  checks-low : Low (checks (scanOf bs))
   unfolding checks
   checks-low =
       low-append (segmentsRows bs) _ segments-low
       (low-append (fileRows bs) _ file-low
-      (low-append (directoryRows bs) _ directory-low
+      (low-append (directoryRows (scanOf bs)) _ directory-low
       (low-append (metadataRows bs) _ metadata-low attachments-low)))
 
 -- ---- what is asked
 
 module _ (bs : List ℕ) where
-  pub verdict-low : numberOf (verdict bs) ≤ 30
+  pub verdict-low : numberOf (verdict (scanOf bs)) ≤ 30
   unfolding verdict
   verdict-low = checks-low bs .low
 
-  pub tile-low : (n : ℕ) → numberOf (tileVerdict bs n) ≤ 30
+  pub tile-low : (n : ℕ) → numberOf (tileVerdict (scanOf bs) n) ≤ 30
   unfolding tileVerdict lows
-  tile-low n = low-append (checks bs) _ (checks-low bs) (low-all (row 24 0 (leb (tileCount bs) n) ∷ []) refl) .low
+  tile-low n = low-append (checks (scanOf bs)) _ (checks-low bs) (low-all (row 24 0 (leb (tileCount bs) n) ∷ []) refl) .low
 
-  pub attachment-verdict-low : (n : ℕ) → numberOf (attachmentVerdict bs n) ≤ 30
+  pub attachment-verdict-low : (n : ℕ) → numberOf (attachmentVerdict (scanOf bs) n) ≤ 30
   unfolding attachmentVerdict lows
-  attachment-verdict-low n = low-append (checks bs) _ (checks-low bs) (low-all (row 24 0 (leb (attachmentCount bs) n) ∷ []) refl) .low
+  attachment-verdict-low n = low-append (checks (scanOf bs)) _ (checks-low bs) (low-all (row 24 0 (leb (attachmentCount bs) n) ∷ []) refl) .low
 
-  pub dimension-low : (n k : ℕ) → numberOf (dimensionVerdict bs n k) ≤ 30
+  pub dimension-low : (n k : ℕ) → numberOf (dimensionVerdict (scanOf bs) n k) ≤ 30
   unfolding dimensionVerdict lows
   dimension-low n k =
-      low-append (checks bs) _ (checks-low bs)
+      low-append (checks (scanOf bs)) _ (checks-low bs)
       (low-all (row 24 0 (leb (tileCount bs) n) ∷ row 24 0 (leb (dimensionCount bs (entryPlace bs n)) k) ∷ []) refl)
       .low
 
@@ -193,9 +193,9 @@ agree-low bs chosen f = low-below (tileCount bs) _ (λ k. low-all _ refl)
 call-low : (a : Asked) (target map : ℕ) → numberOf (callVerdict a target map) ≤ 30
 unfolding callVerdict
 call-low a target map =
-    low-append (checks (a .file)) _ (checks-low (a .file))
+    low-append (checks (a .scan)) _ (checks-low (a .scan .file))
     (low-append (askRows (a .frame) (a .background) target map) _ (ask-low (a .frame) (a .background) target map)
-    (agree-low (a .file) (chosen a) (a .frame)))
+    (agree-low (a .scan .file) (chosen a) (a .frame)))
     .low
 
 answer-if-low : (v : Verdict) (covered stored : ℕ) → numberOf v ≤ 30 → numberIn (answerIf v covered stored) ≤ 30

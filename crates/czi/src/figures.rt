@@ -6,6 +6,7 @@ use listing::Bounds;
 use listing::Summary;
 use listing::SummaryAnswer;
 ghost use mathlib.Core.Path.{_≡_};
+ghost use Rattle.format.specs.Scan.{scanOf};
 ghost use Rattle.format.specs.Rules.{verdict};
 ghost use Rattle.listing.specs.Summary.{summaryOf, summaryVerdict, summaryIn};
 ghost use Rattle.listing.specs.Listing.{listingOf};
@@ -92,7 +93,7 @@ pub extern "C" fn czi_summary(
     right: &mut i32,
     bottom: &mut i32,
 ) -> u32
-    ensures { λ r. ⌜ SummaryOut (verdict (now (file .entry))) (summaryOf (now (file .entry))) r (now (place .exit)) (now (bytes .exit)) (now (segments .exit)) (now (tiles .exit)) (now (attachments .exit)) (now («has_box» .exit)) (now (left .exit)) (now (top .exit)) (now (right .exit)) (now (bottom .exit)) ⌝ }
+    ensures { λ r. ⌜ SummaryOut (verdict (scanOf (now (file .entry)))) (summaryOf (now (file .entry))) r (now (place .exit)) (now (bytes .exit)) (now (segments .exit)) (now (tiles .exit)) (now (attachments .exit)) (now («has_box» .exit)) (now (left .exit)) (now (top .exit)) (now (right .exit)) (now (bottom .exit)) ⌝ }
 {
     let a = listing::summarize(file);
     let v = summary_verdict(a);

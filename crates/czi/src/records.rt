@@ -9,8 +9,9 @@ use format::TileAnswer;
 use format::TileMask;
 use format::Verdict;
 ghost use mathlib.Core.Path.{_≡_};
+ghost use Rattle.format.specs.Scan.{scanOf};
 ghost use Rattle.format.specs.Rules.{tileVerdict};
-ghost use Rattle.format.specs.Records.{dimensionVerdict, tileOf, dimensionOf};
+ghost use Rattle.format.specs.Records.{dimensionVerdict, tileRecord, dimensionRecord};
 ghost use Rattle.format.specs.Answers.{dimensionVerdictIn, dimensionIn};
 ghost use Rattle.czi.specs.Numbers.{layerNumbers, maskNumbers, tileNumbers, tileStarts};
 ghost use Rattle.czi.specs.Out.{TileOut, DimensionOut};
@@ -123,7 +124,7 @@ pub extern "C" fn czi_tile(
     numbers: &mut [u64; 22],
     starts: &mut [i32; 3],
 ) -> u32
-    ensures { λ r. ⌜ TileOut (tileVerdict (now (file .entry)) entry) (tileOf (now (file .entry)) entry) (now (numbers .entry)) (now (starts .entry)) r (now (place .exit)) (now (numbers .exit)) (now (starts .exit)) ⌝ }
+    ensures { λ r. ⌜ TileOut (tileVerdict (scanOf (now (file .entry))) entry) (tileRecord (scanOf (now (file .entry))) entry) (now (numbers .entry)) (now (starts .entry)) r (now (place .exit)) (now (numbers .exit)) (now (starts .exit)) ⌝ }
 {
     let a = parts::tile(file, entry);
     match a {
@@ -186,7 +187,7 @@ pub extern "C" fn czi_dimension(
     coordinate_bits: &mut u32,
     stored: &mut u64,
 ) -> u32
-    ensures { λ r. ⌜ DimensionOut (dimensionVerdict (now (file .entry)) entry dimension) (dimensionOf (now (file .entry)) entry dimension) r (now (place .exit)) (now (letter .exit)) (now (start .exit)) (now (size .exit)) (now («coordinate_bits» .exit)) (now (stored .exit)) ⌝ }
+    ensures { λ r. ⌜ DimensionOut (dimensionVerdict (scanOf (now (file .entry))) entry dimension) (dimensionRecord (scanOf (now (file .entry))) entry dimension) r (now (place .exit)) (now (letter .exit)) (now (start .exit)) (now (size .exit)) (now («coordinate_bits» .exit)) (now (stored .exit)) ⌝ }
 {
     let a = parts::dimension(file, entry, dimension);
     let v = dimension_verdict(a);

@@ -2,6 +2,7 @@
 use format::Verdict;
 ghost use mathlib.Core.Path.{_≡_};
 ghost use Prim.Native.Nat.{_≤_};
+ghost use Rattle.format.specs.Scan.{scanOf};
 ghost use Rattle.format.specs.Checks.{numberOf, placeOf};
 ghost use Rattle.format.specs.Entry.{pixelBytes};
 ghost use Rattle.format.specs.Rules.{verdict};
@@ -31,7 +32,7 @@ pub fn place_of(v: Verdict) -> u64
 // The verdict on a file.
 #[no_mangle]
 pub extern "C" fn czi_judge(file: &[u8], place: &mut u64) -> u32
-    ensures { λ r. ⌜ VerdictOut (verdict (now (file .entry))) r (now (place .exit)) ⌝ }
+    ensures { λ r. ⌜ VerdictOut (verdict (scanOf (now (file .entry)))) r (now (place .exit)) ⌝ }
 {
     let v = judge::judge(file);
     *place = place_of(v);

@@ -4,6 +4,7 @@ use crate::verdict::place_of;
 use format::SpanAnswer;
 use format::Verdict;
 ghost use mathlib.Core.Path.{_≡_};
+ghost use Rattle.format.specs.Scan.{scanOf};
 ghost use Rattle.format.specs.Rules.{verdict, tileVerdict, attachmentVerdict};
 ghost use Rattle.format.specs.Records.{tilePixels, tileMetadata, tileAttachment, attachmentData, commonXml, commonAttachment};
 ghost use Rattle.format.specs.Answers.{spanVerdict};
@@ -28,7 +29,7 @@ pub extern "C" fn czi_tile_pixels(
     start: &mut u64,
     length: &mut u64,
 ) -> u32
-    ensures { λ r. ⌜ SpanOut (tileVerdict (now (file .entry)) entry) (tilePixels (now (file .entry)) entry) r (now (place .exit)) (now (start .exit)) (now (length .exit)) ⌝ }
+    ensures { λ r. ⌜ SpanOut (tileVerdict (scanOf (now (file .entry))) entry) (tilePixels (scanOf (now (file .entry))) entry) r (now (place .exit)) (now (start .exit)) (now (length .exit)) ⌝ }
 {
     let a = parts::tile_pixels_span(file, entry);
     let v = span_verdict(a);
@@ -48,7 +49,7 @@ pub extern "C" fn czi_tile_metadata(
     start: &mut u64,
     length: &mut u64,
 ) -> u32
-    ensures { λ r. ⌜ SpanOut (tileVerdict (now (file .entry)) entry) (tileMetadata (now (file .entry)) entry) r (now (place .exit)) (now (start .exit)) (now (length .exit)) ⌝ }
+    ensures { λ r. ⌜ SpanOut (tileVerdict (scanOf (now (file .entry))) entry) (tileMetadata (scanOf (now (file .entry))) entry) r (now (place .exit)) (now (start .exit)) (now (length .exit)) ⌝ }
 {
     let a = parts::tile_metadata_span(file, entry);
     let v = span_verdict(a);
@@ -68,7 +69,7 @@ pub extern "C" fn czi_tile_attachment(
     start: &mut u64,
     length: &mut u64,
 ) -> u32
-    ensures { λ r. ⌜ SpanOut (tileVerdict (now (file .entry)) entry) (tileAttachment (now (file .entry)) entry) r (now (place .exit)) (now (start .exit)) (now (length .exit)) ⌝ }
+    ensures { λ r. ⌜ SpanOut (tileVerdict (scanOf (now (file .entry))) entry) (tileAttachment (scanOf (now (file .entry))) entry) r (now (place .exit)) (now (start .exit)) (now (length .exit)) ⌝ }
 {
     let a = parts::tile_attachment_span(file, entry);
     let v = span_verdict(a);
@@ -88,7 +89,7 @@ pub extern "C" fn czi_attachment_data(
     start: &mut u64,
     length: &mut u64,
 ) -> u32
-    ensures { λ r. ⌜ SpanOut (attachmentVerdict (now (file .entry)) entry) (attachmentData (now (file .entry)) entry) r (now (place .exit)) (now (start .exit)) (now (length .exit)) ⌝ }
+    ensures { λ r. ⌜ SpanOut (attachmentVerdict (scanOf (now (file .entry))) entry) (attachmentData (scanOf (now (file .entry))) entry) r (now (place .exit)) (now (start .exit)) (now (length .exit)) ⌝ }
 {
     let a = parts::attachment_data_span(file, entry);
     let v = span_verdict(a);
@@ -107,7 +108,7 @@ pub extern "C" fn czi_common_xml(
     start: &mut u64,
     length: &mut u64,
 ) -> u32
-    ensures { λ r. ⌜ SpanOut (verdict (now (file .entry))) (commonXml (now (file .entry))) r (now (place .exit)) (now (start .exit)) (now (length .exit)) ⌝ }
+    ensures { λ r. ⌜ SpanOut (verdict (scanOf (now (file .entry)))) (commonXml (scanOf (now (file .entry)))) r (now (place .exit)) (now (start .exit)) (now (length .exit)) ⌝ }
 {
     let a = parts::common_xml_span(file);
     let v = span_verdict(a);
@@ -126,7 +127,7 @@ pub extern "C" fn czi_common_attachment(
     start: &mut u64,
     length: &mut u64,
 ) -> u32
-    ensures { λ r. ⌜ SpanOut (verdict (now (file .entry))) (commonAttachment (now (file .entry))) r (now (place .exit)) (now (start .exit)) (now (length .exit)) ⌝ }
+    ensures { λ r. ⌜ SpanOut (verdict (scanOf (now (file .entry)))) (commonAttachment (scanOf (now (file .entry)))) r (now (place .exit)) (now (start .exit)) (now (length .exit)) ⌝ }
 {
     let a = parts::common_attachment_span(file);
     let v = span_verdict(a);

@@ -8,6 +8,7 @@ use native.Mathlib.Omega.{arith}
 use lib.ListN.{length}
 use lib.Dec.{ltb}
 use borrow.Author.Tests.{ltb-false, eqb-false, not-false}
+use Rattle.format.specs.Scan.{scanOf}
 use Rattle.format.specs.Checks.{Check, first, rowsBelow}
 use Rattle.format.specs.File.{directoryPosition}
 use Rattle.format.specs.Segments.{room, RoomIn, walkedAs}
@@ -53,11 +54,11 @@ headed bs d e r h =
 
 -- ---- an entry that is accepted itself
 
-pub placed : (bs : List ℕ) (e : ℕ) → dimensionCount bs e ≤ 16 → nextEntry bs e ≤ length bs → first (tileRows bs e) ≡ Accepted → Placed bs e bs (filePosition bs e)
+pub placed : (bs : List ℕ) (e : ℕ) → dimensionCount bs e ≤ 16 → nextEntry bs e ≤ length bs → first (tileRows (scanOf bs) e) ≡ Accepted → Placed bs e bs (filePosition bs e)
 unfolding tileRows
 placed bs e few entry h = record {
-  listed = record { few = few; entry = entry; dimensions = passed (tileRows bs e) h 0; pixel = eqb-false _ _ (passed (tileRows bs e) h 1) };
-  within = walked-room bs (filePosition bs e) nameSubBlock (not-false _ (passed (tileRows bs e) h 4));
+  listed = record { few = few; entry = entry; dimensions = passed (tileRows (scanOf bs) e) h 0; pixel = eqb-false _ _ (passed (tileRows (scanOf bs) e) h 1) };
+  within = walked-room bs (filePosition bs e) nameSubBlock (not-false _ (passed (tileRows (scanOf bs) e) h 4));
 }
 
 -- k is the index of the sub-block that it names, at q: what judging the sub-block rests on
@@ -65,10 +66,10 @@ module _ (bs : List ℕ) (e k q : ℕ) (f : q ≡ filePosition bs e) (n : k ≡ 
   pub named-is : (table : List ℕ) (count : ℕ) → Walk.Filled bs table count → ltb k count ≡ walkedAs bs (filePosition bs e) nameSubBlock
   named-is table count h = rw (n, f, count-is bs table count h) (below-named bs (filePosition bs e) nameSubBlock)
 
-  pub block-known : (flags : List ℕ) → Marked bs flags → dimensionCount bs e ≤ 16 → nextEntry bs e ≤ length bs → first (tileRows bs e) ≡ Accepted → BlockKnown bs flags k e q
+  pub block-known : (flags : List ℕ) → Marked bs flags → dimensionCount bs e ≤ 16 → nextEntry bs e ≤ length bs → first (tileRows (scanOf bs) e) ≡ Accepted → BlockKnown bs flags k e q
   unfolding tileRows
   block-known flags m few entry h =
-      let s = named bs (filePosition bs e) nameSubBlock (not-false _ (passed (tileRows bs e) h 4)) in
+      let s = named bs (filePosition bs e) nameSubBlock (not-false _ (passed (tileRows (scanOf bs) e) h 4)) in
       rw (n, f)
       (record {
         placed = placed bs e few entry h;
@@ -83,7 +84,7 @@ unfolding subBlockRows
 filled bs e q p h = record { agreed = record { placed = p; block = passed (subBlockRows bs e bs q) h 0 }; contents = passed (subBlockRows bs e bs q) h 1 }
 
 -- an accepted entry: the next one lies in the directory too
-pub entry-next : (bs : List ℕ) (d e : ℕ) → RoomIn bs d → first (entryRows bs d e) ≡ Accepted → Headed bs d e
+pub entry-next : (bs : List ℕ) (d e : ℕ) → RoomIn bs d → first (entryRows (scanOf bs) d e) ≡ Accepted → Headed bs d e
 unfolding entryRows
 entry-next bs d e r h = headed bs d e r (first-both (headRows bs d e) _ h .0)
 
@@ -93,14 +94,14 @@ pub record Entries (bs : List ℕ) (d n e k : ℕ) : Type 0 where
   pub count : k ≤ n
   pub place : e ≡ entryPlace bs k
   pub within : e ≤ roomEnd bs d
-  pub accepted : first (rowsBelow k (λ i. entryRows bs d (entryPlace bs i))) ≡ Accepted
+  pub accepted : first (rowsBelow k (λ i. entryRows (scanOf bs) d (entryPlace bs i))) ≡ Accepted
 
 pub entries-start : (bs : List ℕ) (d n : ℕ) → d ≡ directoryPosition bs → d + 160 ≤ roomEnd bs d → Entries bs d n (d + 160) 0
 unfolding entryPlace
 entries-start bs d n e h = record { count = omega arith; place = ap (λ (x : ℕ). x + 160) e; within = h; accepted = rows-zero _ }
 
-module _ (bs : List ℕ) (d n e k : ℕ) (i : Entries bs d n e k) (r : RoomIn bs d) (v : Verdict) (j : v ≡ first (entryRows bs d e)) (l : k < n) where
-  rows-here : first (entryRows bs d (entryPlace bs k)) ≡ v
+module _ (bs : List ℕ) (d n e k : ℕ) (i : Entries bs d n e k) (r : RoomIn bs d) (v : Verdict) (j : v ≡ first (entryRows (scanOf bs) d e)) (l : k < n) where
+  rows-here : first (entryRows (scanOf bs) d (entryPlace bs k)) ≡ v
   rows-here = rw (← i .place) (sym j)
 
   pub entries-next : v ≡ Accepted → Entries bs d n (nextEntry bs e) (k + 1)
@@ -112,10 +113,10 @@ module _ (bs : List ℕ) (d n e k : ℕ) (i : Entries bs d n e k) (r : RoomIn bs
     accepted = rows-more k _ (i .accepted) (rows-here ∙ a);
   }
 
-  pub entries-stop : (m p : ℕ) → v ≡ Refused m p → Refused m p ≡ first (rowsBelow n (λ i. entryRows bs d (entryPlace bs i)))
+  pub entries-stop : (m p : ℕ) → v ≡ Refused m p → Refused m p ≡ first (rowsBelow n (λ i. entryRows (scanOf bs) d (entryPlace bs i)))
   entries-stop m p a = sym (rows-stop n k _ m p l (i .accepted) (rows-here ∙ a))
 
-pub entries-end : (bs : List ℕ) (d n e k : ℕ) → Entries bs d n e k → n ≤ k → Accepted ≡ first (rowsBelow n (λ i. entryRows bs d (entryPlace bs i)))
+pub entries-end : (bs : List ℕ) (d n e k : ℕ) → Entries bs d n e k → n ≤ k → Accepted ≡ first (rowsBelow n (λ i. entryRows (scanOf bs) d (entryPlace bs i)))
 entries-end bs d n e k i h = let f : k ≡ n = omega (arith, i .count) in sym (rw f at (i .accepted))
 
 -- ---- a directory whose fixed part fits: its first entry begins in its room

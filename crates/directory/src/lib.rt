@@ -4,6 +4,7 @@ ghost use mathlib.Core.Path.{_≡_};
 ghost use mathlib.Core.List.{_++_};
 ghost use Prim.Native.Nat.{_+_, _≤_};
 ghost use lib.ListN.{length};
+ghost use Rattle.format.specs.Scan.{scanOf};
 ghost use Rattle.format.specs.Checks.{first, rowsBelow};
 ghost use Rattle.format.specs.Names.{nameSubBlock};
 ghost use Rattle.format.specs.Segments.{RoomIn, walkedAs};
@@ -72,7 +73,7 @@ fn judge_head(s: &[u8], d: u64, e: u64) -> Verdict
 fn judge_tile(s: &[u8], e: u64, named: bool) -> Verdict
     requires { ⌜ (dimensionCount (now s) e ≤ 16) × (nextEntry (now s) e ≤ length (now s)) ⌝ }
     requires { ⌜ named ≡ walkedAs (now s) (filePosition (now s) e) nameSubBlock ⌝ }
-    ensures { λ r. ⌜ r ≡ first (tileRows (now (s .entry)) e) ⌝ }
+    ensures { λ r. ⌜ r ≡ first (tileRows (scanOf (now (s .entry))) e) ⌝ }
 {
     if entries::dimensions_bad(s, e) {
         return Verdict::Refused {
@@ -168,7 +169,7 @@ fn judge_body(
     requires { ⌜ Filled (now s) (now table) count ⌝ }
     requires { ⌜ Marked (now s) (now judged) ⌝ }
     requires { ⌜ (dimensionCount (now s) e ≤ 16) × (nextEntry (now s) e ≤ length (now s)) ⌝ }
-    ensures { λ r. ⌜ AnsweredMarked (now (s .entry)) (tileRows (now (s .entry)) e ++ (subBlockRows (now (s .entry)) e (now (s .entry)) (filePosition (now (s .entry)) e) ++ attachmentRows (now (s .entry)) e (now (s .entry)) (filePosition (now (s .entry)) e))) (now (judged .exit)) r ⌝ }
+    ensures { λ r. ⌜ AnsweredMarked (now (s .entry)) (tileRows (scanOf (now (s .entry))) e ++ (subBlockRows (now (s .entry)) e (now (s .entry)) (filePosition (now (s .entry)) e) ++ attachmentRows (now (s .entry)) e (now (s .entry)) (filePosition (now (s .entry)) e))) (now (judged .exit)) r ⌝ }
 {
     let q = fields::u64_at(s, e + 6);
     let k = segments::index_as(s, table, count, q, b"ZISRAWSUBBLOCK\0\0");
@@ -192,7 +193,7 @@ fn judge_entry(
     requires { ⌜ Marked (now s) (now judged) ⌝ }
     requires { ⌜ RoomIn (now s) d ⌝ }
     requires { ⌜ e ≤ roomEnd (now s) d ⌝ }
-    ensures { λ r. ⌜ AnsweredMarked (now (s .entry)) (entryRows (now (s .entry)) d e) (now (judged .exit)) r ⌝ }
+    ensures { λ r. ⌜ AnsweredMarked (now (s .entry)) (entryRows (scanOf (now (s .entry))) d e) (now (judged .exit)) r ⌝ }
 {
     let v = judge_head(s, d, e);
     match v {
@@ -206,7 +207,7 @@ fn judge_entries(s: &[u8], table: &[u64; 8192], count: usize, d: u64, n: u64) ->
     requires { ⌜ Filled (now s) (now table) count ⌝ }
     requires { ⌜ RoomIn (now s) d ⌝ }
     requires { ⌜ (d ≡ directoryPosition (now s)) × (d + 160 ≤ roomEnd (now s) d) ⌝ }
-    ensures { λ r. ⌜ r ≡ first (rowsBelow n (λ k. entryRows (now (s .entry)) d (entryPlace (now (s .entry)) k))) ⌝ }
+    ensures { λ r. ⌜ r ≡ first (rowsBelow n (λ k. entryRows (scanOf (now (s .entry))) d (entryPlace (now (s .entry)) k))) ⌝ }
 {
     let mut judged = [0u8; 8192];
     let mut e = d + 160;
@@ -230,7 +231,7 @@ fn judge_entries(s: &[u8], table: &[u64; 8192], count: usize, d: u64, n: u64) ->
 pub fn judge_directory(s: &[u8], table: &[u64; 8192], count: usize) -> Verdict
     requires { ⌜ Filled (now s) (now table) count ⌝ }
     requires { ⌜ (112 ≤ length (now s)) × RoomIn (now s) (directoryPosition (now s)) ⌝ }
-    ensures { λ r. ⌜ r ≡ first (directoryRows (now (s .entry))) ⌝ }
+    ensures { λ r. ⌜ r ≡ first (directoryRows (scanOf (now (s .entry)))) ⌝ }
 {
     let d = fields::u64_at(s, 84);
     if directory_bad(s, d) {

@@ -5,13 +5,14 @@ use mathlib.Core.List.{List, []}
 use mathlib.Core.Bool.{Bool, true, false, cond}
 use borrow.Author.Tests.{le-ltb, ltb-false, eq-eqb, ne-eqb, eqb-true, eqb-false, not-false}
 use Rattle.format.specs.Checks.{first}
+use Rattle.format.specs.Scan.{Scan, blockFile}
 use Rattle.format.specs.Segments.{walked}
 use Rattle.format.specs.Entry.{filePosition}
-use Rattle.format.specs.SubBlock.{metadataSize, attachmentSize, metadataPlace, attachmentPlace}
-use Rattle.format.specs.Masks.{isContainer, chunksRows}
+use Rattle.format.specs.SubBlock.{attachmentSize, attachmentPlace}
+use Rattle.format.specs.Masks.{hasChunks, chunksRows}
 use Rattle.format.specs.Directory.{headRows, tileRows, subBlockRows, attachmentRows, entryRows}
 use Rattle.format.specs.Attachments.{attachmentEntryRows}
-use Rattle.format.specs.WellFormed.{Chunks, Entry, AttachmentEntry}
+use Rattle.format.specs.WellFormed.{ChunksFill, Entry, AttachmentEntry}
 use Rattle.format.specs.declared.Verdict.the-variants.{Accepted}
 use Rattle.format.proofs.Firsts.{first-both, first-pass, passed}
 use Rattle.format.proofs.SegmentLaws.{names-ok, names-accepted}
@@ -20,41 +21,41 @@ use Rattle.format.proofs.ChunkWalk.{chunks-ok, chunks-accepted}
 -- ---- a sub-block's attachment
 
 module _ (ds : List ℕ) (e : ℕ) (bs : List ℕ) (q : ℕ) where
-  pub container-ok : first (attachmentRows ds e bs q) ≡ Accepted → isContainer bs (metadataPlace ds e q) (metadataSize bs q) ≡ true
-      → Chunks bs (attachmentPlace ds e bs q) (attachmentPlace ds e bs q + attachmentSize bs q)
+  pub container-ok : first (attachmentRows ds e bs q) ≡ Accepted → hasChunks ds e bs q ≡ true
+      → ChunksFill ds e bs q
   unfolding attachmentRows
   container-ok a c = chunks-ok bs (attachmentSize bs q) (attachmentPlace ds e bs q) (rw c at a)
 
-  pub container-accepted : (isContainer bs (metadataPlace ds e q) (metadataSize bs q) ≡ true → Chunks bs (attachmentPlace ds e bs q) (attachmentPlace ds e bs q + attachmentSize bs q))
+  pub container-accepted : (hasChunks ds e bs q ≡ true → ChunksFill ds e bs q)
       → first (attachmentRows ds e bs q) ≡ Accepted
   unfolding attachmentRows
-  container-accepted h = go (isContainer bs (metadataPlace ds e q) (metadataSize bs q)) h
+  container-accepted h = go (hasChunks ds e bs q) h
     where
-      go : (b : Bool) → (b ≡ true → Chunks bs (attachmentPlace ds e bs q) (attachmentPlace ds e bs q + attachmentSize bs q))
+      go : (b : Bool) → (b ≡ true → ChunksFill ds e bs q)
           → first (cond b (chunksRows (attachmentSize bs q) bs (attachmentPlace ds e bs q + attachmentSize bs q) false (attachmentPlace ds e bs q)) []) ≡ Accepted
       go true h = chunks-accepted bs (attachmentSize bs q) (attachmentPlace ds e bs q) (h refl)
       go false h = refl
 
 -- ---- an entry DV
 
-module _ (bs : List ℕ) (d e : ℕ) where
+module _ (sc : Scan) (d e : ℕ) where
   -- its four parts
-  entry-parts : first (entryRows bs d e) ≡ Accepted
-      → (first (headRows bs d e) ≡ Accepted) × (first (tileRows bs e) ≡ Accepted) × (first (subBlockRows bs e bs (filePosition bs e)) ≡ Accepted) × (first (attachmentRows bs e bs (filePosition bs e)) ≡ Accepted)
+  entry-parts : first (entryRows sc d e) ≡ Accepted
+      → (first (headRows (sc .file) d e) ≡ Accepted) × (first (tileRows sc e) ≡ Accepted) × (first (subBlockRows (sc .file) e (blockFile sc e) (filePosition (sc .file) e)) ≡ Accepted) × (first (attachmentRows (sc .file) e (blockFile sc e) (filePosition (sc .file) e)) ≡ Accepted)
   unfolding entryRows
   entry-parts x =
-      let a = first-both (headRows bs d e) _ x in
-      let b = first-both (tileRows bs e) _ (a .1) in
-      let c = first-both (subBlockRows bs e bs (filePosition bs e)) _ (b .1) in
+      let a = first-both (headRows (sc .file) d e) _ x in
+      let b = first-both (tileRows sc e) _ (a .1) in
+      let c = first-both (subBlockRows (sc .file) e (blockFile sc e) (filePosition (sc .file) e)) _ (b .1) in
       (a .0, b .0, c .0, c .1)
 
-  pub entry-ok : first (entryRows bs d e) ≡ Accepted → Entry bs (walked bs) d e
+  pub entry-ok : first (entryRows sc d e) ≡ Accepted → Entry sc (walked (blockFile sc e)) d e
   unfolding headRows tileRows subBlockRows
   entry-ok x =
       let parts = entry-parts x in
-      let h = passed (headRows bs d e) (parts .0) in
-      let t = passed (tileRows bs e) (parts .1) in
-      let s = passed (subBlockRows bs e bs (filePosition bs e)) (parts .2) in
+      let h = passed (headRows (sc .file) d e) (parts .0) in
+      let t = passed (tileRows sc e) (parts .1) in
+      let s = passed (subBlockRows (sc .file) e (blockFile sc e) (filePosition (sc .file) e)) (parts .2) in
       record {
         head-fits = ltb-false _ _ (h 0);
         head = h 1;
@@ -63,32 +64,32 @@ module _ (bs : List ℕ) (d e : ℕ) where
         listed = eqb-false _ _ (t 1);
         uncompressed = eqb-true _ _ (not-false _ (t 2));
         part = eqb-true _ _ (not-false _ (t 3));
-        names = names-ok bs _ _ (not-false _ (t 4));
+        names = names-ok (blockFile sc e) _ _ (not-false _ (t 4));
         block = s 0;
         contents = s 1;
-        container = container-ok bs e bs (filePosition bs e) (parts .3);
+        container = container-ok (sc .file) e (blockFile sc e) (filePosition (sc .file) e) (parts .3);
       }
 
-  module _ (x : Entry bs (walked bs) d e) where
-    head-accepted : first (headRows bs d e) ≡ Accepted
+  module _ (x : Entry sc (walked (blockFile sc e)) d e) where
+    head-accepted : first (headRows (sc .file) d e) ≡ Accepted
     unfolding headRows
     head-accepted = rw (le-ltb _ _ (x .head-fits), x .head, le-ltb _ _ (x .fits))
 
-    tile-accepted : first (tileRows bs e) ≡ Accepted
+    tile-accepted : first (tileRows sc e) ≡ Accepted
     unfolding tileRows
-    tile-accepted = rw (x .dimensions, ne-eqb _ _ (x .listed), eq-eqb _ _ (x .uncompressed), eq-eqb _ _ (x .part), names-accepted bs _ _ (x .names))
+    tile-accepted = rw (x .dimensions, ne-eqb _ _ (x .listed), eq-eqb _ _ (x .uncompressed), eq-eqb _ _ (x .part), names-accepted (blockFile sc e) _ _ (x .names))
 
-    block-accepted : first (subBlockRows bs e bs (filePosition bs e)) ≡ Accepted
+    block-accepted : first (subBlockRows (sc .file) e (blockFile sc e) (filePosition (sc .file) e)) ≡ Accepted
     unfolding subBlockRows
     block-accepted = rw (x .block, x .contents)
 
-    pub entry-accepted : first (entryRows bs d e) ≡ Accepted
+    pub entry-accepted : first (entryRows sc d e) ≡ Accepted
     unfolding entryRows
     entry-accepted =
-        first-pass (headRows bs d e) _ head-accepted ∙
-        (first-pass (tileRows bs e) _ tile-accepted ∙
-        (first-pass (subBlockRows bs e bs (filePosition bs e)) _ block-accepted ∙
-        container-accepted bs e bs (filePosition bs e) (x .container)))
+        first-pass (headRows (sc .file) d e) _ head-accepted ∙
+        (first-pass (tileRows sc e) _ tile-accepted ∙
+        (first-pass (subBlockRows (sc .file) e (blockFile sc e) (filePosition (sc .file) e)) _ block-accepted ∙
+        container-accepted (sc .file) e (blockFile sc e) (filePosition (sc .file) e) (x .container)))
 
 -- ---- an entry A1
 

@@ -8,6 +8,7 @@ use lib.Dec.{eqb}
 use borrow.Author.Tests.{eq-eqb, eqb-true, not-false}
 use Rattle.format.specs.Names.{nameDirectory, nameMetadata, nameAttachmentDirectory}
 use Rattle.format.specs.Checks.{Check, row, first, rowsBelow}
+use Rattle.format.specs.Scan.{Scan}
 use Rattle.format.specs.Segments.{walked, walkedAs}
 use Rattle.format.specs.File.{major, filePart, updatePending, directoryPosition, metadataPosition, attachmentDirectoryPosition, namesNone, namesNoneBut0, fileRows}
 use Rattle.format.specs.Directory.{tileCount, entryPlace, directoryBad, entryRows, directoryRows}
@@ -66,20 +67,6 @@ module _ (bs : List ℕ) where
   unfolding fileRows namesNone
   file-accepted f = rw (eq-eqb _ _ (f .major-right), eq-eqb _ _ (f .part), eq-eqb _ _ (f .settled), names-accepted bs _ _ (f .directory), f .metadata, f .attachments)
 
-  -- ---- the sub-block directory
-
-  pub directory-ok : first (directoryRows bs) ≡ Accepted
-      → (directoryBad bs (directoryPosition bs) ≡ false) × ((k : ℕ) → k < tileCount bs → Entry bs (walked bs) (directoryPosition bs) (entryPlace bs k))
-  unfolding directoryRows
-  directory-ok e =
-      let f = first-passed (directoryBad bs (directoryPosition bs)) 10 (directoryPosition bs) (first (rowsBelow (tileCount bs) (λ k. entryRows bs (directoryPosition bs) (entryPlace bs k)))) e in
-      (f .0, λ k h. entry-ok bs (directoryPosition bs) (entryPlace bs k) (rows-each (tileCount bs) k _ (f .1) h))
-
-  pub directory-accepted : directoryBad bs (directoryPosition bs) ≡ false → ((k : ℕ) → k < tileCount bs → Entry bs (walked bs) (directoryPosition bs) (entryPlace bs k))
-      → first (directoryRows bs) ≡ Accepted
-  unfolding directoryRows
-  directory-accepted e h = rw e (rows-all (tileCount bs) _ (λ k l. entry-accepted bs (directoryPosition bs) (entryPlace bs k) (h k l)))
-
   -- ---- the metadata segment
 
   pub metadata-ok : namesNoneBut0 bs (metadataPosition bs) nameMetadata ≡ false → first (metadataRows bs) ≡ Accepted
@@ -122,3 +109,18 @@ module _ (bs : List ℕ) where
   attachments-accepted a =
       optional-accepted bs (attachmentDirectoryPosition bs) nameAttachmentDirectory (attachmentDirectoryRows bs (attachmentDirectoryPosition bs))
       (⊎-elim inl (λ x. inr (x .names, entries-accepted (attachmentDirectoryPosition bs) x)) a)
+
+-- ---- the sub-block directory
+
+module _ (sc : Scan) where
+  pub directory-ok : first (directoryRows sc) ≡ Accepted
+      → (directoryBad (sc .file) (directoryPosition (sc .file)) ≡ false) × ((k : ℕ) → k < tileCount (sc .file) → Entry sc (walked (sc .file)) (directoryPosition (sc .file)) (entryPlace (sc .file) k))
+  unfolding directoryRows
+  directory-ok e =
+      let f = first-passed (directoryBad (sc .file) (directoryPosition (sc .file))) 10 (directoryPosition (sc .file)) (first (rowsBelow (tileCount (sc .file)) (λ k. entryRows sc (directoryPosition (sc .file)) (entryPlace (sc .file) k)))) e in
+      (f .0, λ k h. entry-ok sc (directoryPosition (sc .file)) (entryPlace (sc .file) k) (rows-each (tileCount (sc .file)) k _ (f .1) h))
+
+  pub directory-accepted : directoryBad (sc .file) (directoryPosition (sc .file)) ≡ false → ((k : ℕ) → k < tileCount (sc .file) → Entry sc (walked (sc .file)) (directoryPosition (sc .file)) (entryPlace (sc .file) k))
+      → first (directoryRows sc) ≡ Accepted
+  unfolding directoryRows
+  directory-accepted e h = rw e (rows-all (tileCount (sc .file)) _ (λ k l. entry-accepted sc (directoryPosition (sc .file)) (entryPlace (sc .file) k) (h k l)))

@@ -6,11 +6,12 @@ use lib.Dec.{eqb, ltb}
 use Rattle.format.specs.Bytes.{u32At, anyOf, negative32}
 use Rattle.format.specs.Names.{nameSubBlock}
 use Rattle.format.specs.Checks.{Check, row, rowsBelow}
+use Rattle.format.specs.Scan.{Scan, blockFile}
 use Rattle.format.specs.Segments.{room, walkedAs}
 use Rattle.format.specs.File.{directoryPosition}
 use Rattle.format.specs.Entry.{pixelType, pixelBytes, filePosition, entryPart, compression, nextEntry, headBad, dimensionsBad}
-use Rattle.format.specs.SubBlock.{metadataSize, attachmentSize, subBlockBad, contentsBad, metadataPlace, attachmentPlace}
-use Rattle.format.specs.Masks.{isContainer, chunksRows}
+use Rattle.format.specs.SubBlock.{attachmentSize, subBlockBad, contentsBad, attachmentPlace}
+use Rattle.format.specs.Masks.{chunksRows, hasChunks}
 
 -- ---- EntryCount Int 0, entries from 128, one after the other
 
@@ -48,13 +49,13 @@ headRows bs d e =
     row 10 d (ltb (roomEnd bs d) (nextEntry bs e)) ∷
     []
 
-unfoldable pub tileRows : List ℕ → ℕ → List Check
-tileRows bs e =
-    row 11 e (dimensionsBad bs e) ∷
-    row 12 e (eqb (pixelBytes (pixelType bs e)) 0) ∷
-    row 13 e (not (eqb (compression bs e) 0)) ∷
-    row 7 e (not (eqb (entryPart bs e) 0)) ∷
-    row 14 e (not (walkedAs bs (filePosition bs e) nameSubBlock)) ∷
+unfoldable pub tileRows : Scan → ℕ → List Check
+tileRows sc e =
+    row 11 e (dimensionsBad (sc .file) e) ∷
+    row 12 e (eqb (pixelBytes (pixelType (sc .file) e)) 0) ∷
+    row 13 e (not (eqb (compression (sc .file) e) 0)) ∷
+    row 7 e (not (eqb (entryPart (sc .file) e) 0)) ∷
+    row 14 e (not (walkedAs (blockFile sc e) (filePosition (sc .file) e) nameSubBlock)) ∷
     []
 
 unfoldable pub subBlockRows : List ℕ → ℕ → List ℕ → ℕ → List Check
@@ -66,18 +67,18 @@ subBlockRows ds e bs q =
 -- the attachment's chunks, where it is a chunk container
 unfoldable pub attachmentRows : List ℕ → ℕ → List ℕ → ℕ → List Check
 attachmentRows ds e bs q =
-    cond (isContainer bs (metadataPlace ds e q) (metadataSize bs q))
+    cond (hasChunks ds e bs q)
     (chunksRows (attachmentSize bs q) bs (attachmentPlace ds e bs q + attachmentSize bs q) false (attachmentPlace ds e bs q))
     []
 
-unfoldable pub entryRows : List ℕ → ℕ → ℕ → List Check
-entryRows bs d e =
-    headRows bs d e ++
-    (tileRows bs e ++
-    (subBlockRows bs e bs (filePosition bs e) ++
-    attachmentRows bs e bs (filePosition bs e)))
+unfoldable pub entryRows : Scan → ℕ → ℕ → List Check
+entryRows sc d e =
+    headRows (sc .file) d e ++
+    (tileRows sc e ++
+    (subBlockRows (sc .file) e (blockFile sc e) (filePosition (sc .file) e) ++
+    attachmentRows (sc .file) e (blockFile sc e) (filePosition (sc .file) e)))
 
-unfoldable pub directoryRows : List ℕ → List Check
-directoryRows bs =
-    row 10 (directoryPosition bs) (directoryBad bs (directoryPosition bs)) ∷
-    rowsBelow (tileCount bs) (λ k. entryRows bs (directoryPosition bs) (entryPlace bs k))
+unfoldable pub directoryRows : Scan → List Check
+directoryRows sc =
+    row 10 (directoryPosition (sc .file)) (directoryBad (sc .file) (directoryPosition (sc .file))) ∷
+    rowsBelow (tileCount (sc .file)) (λ k. entryRows sc (directoryPosition (sc .file)) (entryPlace (sc .file) k))

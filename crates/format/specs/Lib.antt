@@ -1,6 +1,7 @@
 -- The rules of a CZI file, in the order of paper 01.
 pub mod Bytes
 pub mod Checks
+pub mod Scan
 pub mod Names
 pub mod Segments
 pub mod File

@@ -8,6 +8,7 @@ use lib.Dec.{eqb, ltb}
 use Rattle.format.specs.Bytes.{u32At, sameAt, anyOf, anyBelow, negative32}
 use Rattle.format.specs.Names.{containerMarker, maskGuid}
 use Rattle.format.specs.Checks.{Check, row}
+use Rattle.format.specs.SubBlock.{metadataSize, metadataPlace}
 use Rattle.format.specs.declared.MaskShape.{MaskShape}
 use Rattle.format.specs.declared.Content.the-variants.{Mask, Other}
 use Rattle.format.specs.declared.Chunk.{Chunk}
@@ -18,6 +19,10 @@ use Rattle.format.specs.declared.TileMask.the-variants.{Unmasked, Masked
 
 unfoldable pub isContainer : List ℕ → ℕ → ℕ → Bool
 isContainer bs p n = anyBelow (n + 1 - 39) (λ i. sameAt bs (p + i) containerMarker)
+
+-- the attachment of the sub-block at q of the file bs, its entry at e of the file ds, is a chunk container
+unfoldable pub hasChunks : List ℕ → ℕ → List ℕ → ℕ → Bool
+hasChunks ds e bs q = isContainer bs (metadataPlace ds e q) (metadataSize bs q)
 
 -- ---- a chunk: GUID (16), size Int at 16, payload from 20; the next follows at once
 

@@ -6,10 +6,11 @@ use lib.Dec.{eqb, leb}
 use lib.Ieee.{ofBits, binary32}
 use Rattle.format.specs.Bytes.{anyBelow, signed32}
 use Rattle.format.specs.Checks.{row, first, ifAccepted}
+use Rattle.format.specs.Scan.{Scan, blockFile}
 use Rattle.format.specs.File.{metadataPosition, attachmentDirectoryPosition}
 use Rattle.format.specs.Entry.{pixelType, filePosition, pyramidByte, dimensionCount, letter, start, size, coordinateBits, stored, dimensionPlace, hasLetter, letterPlace}
 use Rattle.format.specs.SubBlock.{metadataSize, attachmentSize, dataSize, metadataPlace, pixelsPlace, attachmentPlace}
-use Rattle.format.specs.Masks.{isContainer, maskFrom}
+use Rattle.format.specs.Masks.{maskFrom, hasChunks}
 use Rattle.format.specs.Directory.{tileCount, entryPlace}
 use Rattle.format.specs.Attachments.{xmlSize, xmlAttachmentSize, attachmentEntry, attachmentPosition, attachmentDataSize}
 use Rattle.format.specs.Rules.{checks, verdict, tileVerdict, attachmentVerdict}
@@ -27,6 +28,17 @@ use Rattle.format.specs.declared.TileAnswer.{TileAnswer}
 use Rattle.format.specs.declared.TileAnswer.the-variants as TA
 use Rattle.format.specs.declared.DimensionAnswer.{DimensionAnswer}
 use Rattle.format.specs.declared.DimensionAnswer.the-variants as DA
+
+-- ---- entry n of a scan: where it stands, the file that it names, and where its sub-block stands there
+
+abbrev pub tileEntry : Scan → ℕ → ℕ
+tileEntry sc n = entryPlace (sc .file) n
+
+abbrev pub tileFile : Scan → ℕ → List ℕ
+tileFile sc n = blockFile sc (tileEntry sc n)
+
+abbrev pub tilePosition : Scan → ℕ → ℕ
+tilePosition sc n = filePosition (sc .file) (tileEntry sc n)
 
 -- ---- stretches of the file
 
@@ -51,7 +63,7 @@ attachmentSpan ds e bs q = span (attachmentPlace ds e bs q) (attachmentSize bs q
 -- its mask: a tile with no mask is valid everywhere
 unfoldable pub maskOf : List ℕ → ℕ → List ℕ → ℕ → TileMask
 maskOf ds e bs q =
-    cond (isContainer bs (metadataPlace ds e q) (metadataSize bs q))
+    cond (hasChunks ds e bs q)
     (maskFrom (attachmentSize bs q) bs (attachmentPlace ds e bs q + attachmentSize bs q) (attachmentPlace ds e bs q))
     Unmasked
 
@@ -84,8 +96,9 @@ tileAt n ds e bs q =
       mask = maskOf ds e bs q;
     }
 
-unfoldable pub tileOf : List ℕ → ℕ → Tile
-tileOf bs n = tileAt n bs (entryPlace bs n) bs (filePosition bs (entryPlace bs n))
+-- of entry n of a scan
+unfoldable pub tileRecord : Scan → ℕ → Tile
+tileRecord sc n = tileAt n (sc .file) (tileEntry sc n) (tileFile sc n) (tilePosition sc n)
 
 -- the answer, by the verdict
 abbrev pub tileIf : Verdict → Tile → TileAnswer
@@ -106,12 +119,12 @@ dimensionAt bs d =
     }
 
 -- 24 where there is no such entry, or no such dimension of it
-unfoldable pub dimensionVerdict : List ℕ → ℕ → ℕ → Verdict
-dimensionVerdict bs n k =
+unfoldable pub dimensionVerdict : Scan → ℕ → ℕ → Verdict
+dimensionVerdict sc n k =
     first
-    (checks bs ++
-    (row 24 0 (leb (tileCount bs) n) ∷
-    row 24 0 (leb (dimensionCount bs (entryPlace bs n)) k) ∷
+    (checks sc ++
+    (row 24 0 (leb (tileCount (sc .file)) n) ∷
+    row 24 0 (leb (dimensionCount (sc .file) (tileEntry sc n)) k) ∷
     []))
 
 abbrev pub dimensionIf : Verdict → Dimension → DimensionAnswer
@@ -119,26 +132,28 @@ dimensionIf Is.Accepted d = DA.Found d
 dimensionIf (Is.Refused n p) d = DA.Refused n p
 
 -- of dimension k of entry n
-unfoldable pub dimensionOf : List ℕ → ℕ → ℕ → Dimension
-dimensionOf bs n k = dimensionAt bs (dimensionPlace (entryPlace bs n) k)
+unfoldable pub dimensionRecord : Scan → ℕ → ℕ → Dimension
+dimensionRecord sc n k = dimensionAt (sc .file) (dimensionPlace (tileEntry sc n) k)
 
 -- ---- the stretches of the views: the empty one where refused
 
-unfoldable pub tilePixels : List ℕ → ℕ → Span
-tilePixels bs n = spanIf (tileVerdict bs n) (pixelsSpan bs (entryPlace bs n) bs (filePosition bs (entryPlace bs n)))
+unfoldable pub tilePixels : Scan → ℕ → Span
+tilePixels sc n = spanIf (tileVerdict sc n) (pixelsSpan (sc .file) (tileEntry sc n) (tileFile sc n) (tilePosition sc n))
 
-unfoldable pub tileMetadata : List ℕ → ℕ → Span
-tileMetadata bs n = spanIf (tileVerdict bs n) (metadataSpan bs (entryPlace bs n) bs (filePosition bs (entryPlace bs n)))
+unfoldable pub tileMetadata : Scan → ℕ → Span
+tileMetadata sc n = spanIf (tileVerdict sc n) (metadataSpan (sc .file) (tileEntry sc n) (tileFile sc n) (tilePosition sc n))
 
-unfoldable pub tileAttachment : List ℕ → ℕ → Span
-tileAttachment bs n = spanIf (tileVerdict bs n) (attachmentSpan bs (entryPlace bs n) bs (filePosition bs (entryPlace bs n)))
+unfoldable pub tileAttachment : Scan → ℕ → Span
+tileAttachment sc n = spanIf (tileVerdict sc n) (attachmentSpan (sc .file) (tileEntry sc n) (tileFile sc n) (tilePosition sc n))
 
 -- the data of the attachment at q, from 256
 unfoldable pub attachmentDataSpan : List ℕ → ℕ → Span
 attachmentDataSpan bs q = span (q + 288) (attachmentDataSize bs q)
 
-unfoldable pub attachmentData : List ℕ → ℕ → Span
-attachmentData bs n = spanIf (attachmentVerdict bs n) (attachmentDataSpan bs (attachmentPosition bs (attachmentEntry (attachmentDirectoryPosition bs) n)))
+unfoldable pub attachmentData : Scan → ℕ → Span
+attachmentData sc n =
+    spanIf (attachmentVerdict sc n)
+    (attachmentDataSpan (sc .file) (attachmentPosition (sc .file) (attachmentEntry (attachmentDirectoryPosition (sc .file)) n)))
 
 -- the common XML and its attachment: empty, and not refused, without a metadata segment
 unfoldable pub xmlSpan : List ℕ → ℕ → Span
@@ -147,8 +162,8 @@ xmlSpan bs m = cond (eqb m 0) (span 0 0) (span (m + 288) (xmlSize bs m))
 unfoldable pub xmlAttachmentSpan : List ℕ → ℕ → Span
 xmlAttachmentSpan bs m = cond (eqb m 0) (span 0 0) (span (m + 288 + xmlSize bs m) (xmlAttachmentSize bs m))
 
-unfoldable pub commonXml : List ℕ → Span
-commonXml bs = spanIf (verdict bs) (xmlSpan bs (metadataPosition bs))
+unfoldable pub commonXml : Scan → Span
+commonXml sc = spanIf (verdict sc) (xmlSpan (sc .file) (metadataPosition (sc .file)))
 
-unfoldable pub commonAttachment : List ℕ → Span
-commonAttachment bs = spanIf (verdict bs) (xmlAttachmentSpan bs (metadataPosition bs))
+unfoldable pub commonAttachment : Scan → Span
+commonAttachment sc = spanIf (verdict sc) (xmlAttachmentSpan (sc .file) (metadataPosition (sc .file)))

@@ -7,11 +7,12 @@ use mathlib.Core.Bool.{true, false}
 use lib.ListN.{length, getD}
 use Rattle.format.specs.Bytes.{sameAt}
 use Rattle.format.specs.Names.{nameDirectory, nameSubBlock, nameMetadata, nameAttachment, nameAttachmentDirectory}
+use Rattle.format.specs.Scan.{Scan, blockFile}
 use Rattle.format.specs.Segments.{nextSegment, lengthBad, nameBad, sizesBad, roleBad}
 use Rattle.format.specs.File.{major, filePart, updatePending, directoryPosition, metadataPosition, attachmentDirectoryPosition}
 use Rattle.format.specs.Entry.{pixelType, pixelBytes, filePosition, entryPart, compression, nextEntry, headBad, dimensionsBad}
-use Rattle.format.specs.SubBlock.{metadataSize, attachmentSize, subBlockBad, contentsBad, metadataPlace, attachmentPlace}
-use Rattle.format.specs.Masks.{isContainer, nextChunk, chunkBad, isMask, maskBad}
+use Rattle.format.specs.SubBlock.{attachmentSize, subBlockBad, contentsBad, attachmentPlace}
+use Rattle.format.specs.Masks.{hasChunks, nextChunk, chunkBad, isMask, maskBad}
 use Rattle.format.specs.Directory.{roomEnd, tileCount, entryPlace, directoryBad}
 use Rattle.format.specs.Attachments.{metadataBad, attachmentDirectoryBad, attachmentEntryCount, attachmentEntry, attachmentPosition, attachmentPart, attachmentEntryBad, attachmentBad, attachmentDataBad}
 
@@ -48,21 +49,24 @@ pub record Chunks (bs : List ℕ) (a end : ℕ) : Type 0 where
   pub mask : Each (λ c. isMask bs c ≡ true → maskBad bs c ≡ false) chunks
   pub one : (i j : ℕ) → i < length chunks → j < length chunks → isMask bs (getD chunks i 0) ≡ true → isMask bs (getD chunks j 0) ≡ true → i ≡ j
 
--- ---- an entry DV at e of the directory at d, and its sub-block
+-- the attachment of the sub-block at q of the file bs, its entry at e of the file ds, is filled by its chunks
+abbrev pub ChunksFill : List ℕ → ℕ → List ℕ → ℕ → Type 0
+ChunksFill ds e bs q = Chunks bs (attachmentPlace ds e bs q) (attachmentPlace ds e bs q + attachmentSize bs q)
 
-pub record Entry (bs segments : List ℕ) (d e : ℕ) : Type 0 where
-  pub head-fits : e + 32 ≤ roomEnd bs d
-  pub head : headBad bs e ≡ false
-  pub fits : nextEntry bs e ≤ roomEnd bs d
-  pub dimensions : dimensionsBad bs e ≡ false
-  pub listed : pixelBytes (pixelType bs e) ≡ 0 → ⊥
-  pub uncompressed : compression bs e ≡ 0
-  pub part : entryPart bs e ≡ 0
-  pub names : Names bs segments (filePosition bs e) nameSubBlock
-  pub block : subBlockBad bs e bs (filePosition bs e) ≡ false
-  pub contents : contentsBad bs e bs (filePosition bs e) ≡ false
-  pub container : isContainer bs (metadataPlace bs e (filePosition bs e)) (metadataSize bs (filePosition bs e)) ≡ true
-      → Chunks bs (attachmentPlace bs e bs (filePosition bs e)) (attachmentPlace bs e bs (filePosition bs e) + attachmentSize bs (filePosition bs e))
+-- ---- an entry DV at e of the directory at d, and its sub-block; segments are those of the file that it names
+
+pub record Entry (sc : Scan) (segments : List ℕ) (d e : ℕ) : Type 0 where
+  pub head-fits : e + 32 ≤ roomEnd (sc .file) d
+  pub head : headBad (sc .file) e ≡ false
+  pub fits : nextEntry (sc .file) e ≤ roomEnd (sc .file) d
+  pub dimensions : dimensionsBad (sc .file) e ≡ false
+  pub listed : pixelBytes (pixelType (sc .file) e) ≡ 0 → ⊥
+  pub uncompressed : compression (sc .file) e ≡ 0
+  pub part : entryPart (sc .file) e ≡ 0
+  pub names : Names (blockFile sc e) segments (filePosition (sc .file) e) nameSubBlock
+  pub block : subBlockBad (sc .file) e (blockFile sc e) (filePosition (sc .file) e) ≡ false
+  pub contents : contentsBad (sc .file) e (blockFile sc e) (filePosition (sc .file) e) ≡ false
+  pub container : hasChunks (sc .file) e (blockFile sc e) (filePosition (sc .file) e) ≡ true → ChunksFill (sc .file) e (blockFile sc e) (filePosition (sc .file) e)
 
 -- ---- an entry A1 at e, and its attachment
 
@@ -80,17 +84,17 @@ pub record AttachmentDirectory (bs segments : List ℕ) (t : ℕ) : Type 0 where
 
 -- ---- the file
 
-pub record WellFormed (bs : List ℕ) : Type 0 where
-  pub length-right : lengthBad bs ≡ false
+pub record WellFormed (sc : Scan) : Type 0 where
+  pub length-right : lengthBad (sc .file) ≡ false
   pub segments : List ℕ
-  pub tile : Chain (nextSegment bs) 0 (length bs) segments
+  pub tile : Chain (nextSegment (sc .file)) 0 (length (sc .file)) segments
   pub few : length segments ≤ 8192
-  pub segment : Each (Segment bs) segments
-  pub major-right : major bs ≡ 1
-  pub part : filePart bs ≡ 0
-  pub settled : updatePending bs ≡ 0
-  pub names-directory : Names bs segments (directoryPosition bs) nameDirectory
-  pub directory : directoryBad bs (directoryPosition bs) ≡ false
-  pub entries : (k : ℕ) → k < tileCount bs → Entry bs segments (directoryPosition bs) (entryPlace bs k)
-  pub metadata : (metadataPosition bs ≡ 0) ⊎ (Names bs segments (metadataPosition bs) nameMetadata × (metadataBad bs (metadataPosition bs) ≡ false))
-  pub attachments : (attachmentDirectoryPosition bs ≡ 0) ⊎ AttachmentDirectory bs segments (attachmentDirectoryPosition bs)
+  pub segment : Each (Segment (sc .file)) segments
+  pub major-right : major (sc .file) ≡ 1
+  pub part : filePart (sc .file) ≡ 0
+  pub settled : updatePending (sc .file) ≡ 0
+  pub names-directory : Names (sc .file) segments (directoryPosition (sc .file)) nameDirectory
+  pub directory : directoryBad (sc .file) (directoryPosition (sc .file)) ≡ false
+  pub entries : (k : ℕ) → k < tileCount (sc .file) → Entry sc segments (directoryPosition (sc .file)) (entryPlace (sc .file) k)
+  pub metadata : (metadataPosition (sc .file) ≡ 0) ⊎ (Names (sc .file) segments (metadataPosition (sc .file)) nameMetadata × (metadataBad (sc .file) (metadataPosition (sc .file)) ≡ false))
+  pub attachments : (attachmentDirectoryPosition (sc .file) ≡ 0) ⊎ AttachmentDirectory (sc .file) segments (attachmentDirectoryPosition (sc .file))

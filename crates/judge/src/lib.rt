@@ -4,6 +4,7 @@ ghost use mathlib.Core.Path.{_≡_};
 ghost use mathlib.Core.List.{_++_};
 ghost use Prim.Native.Nat.{_+_, _≤_};
 ghost use lib.ListN.{length};
+ghost use Rattle.format.specs.Scan.{scanOf};
 ghost use Rattle.format.specs.Checks.{first};
 ghost use Rattle.format.specs.File.{namesNone, namesNoneBut0, fileRows};
 ghost use Rattle.format.specs.Directory.{directoryRows, tileCount};
@@ -113,7 +114,7 @@ fn judge_annexes(s: &[u8], table: &[u64; 8192], count: usize) -> Verdict
 fn judge_named(s: &[u8], table: &[u64; 8192], count: usize) -> Verdict
     requires { ⌜ Filled (now s) (now table) count ⌝ }
     requires { ⌜ (112 ≤ length (now s)) × Located (now s) ⌝ }
-    ensures { λ r. ⌜ r ≡ first (directoryRows (now (s .entry)) ++ (metadataRows (now (s .entry)) ++ attachmentsRows (now (s .entry)))) ⌝ }
+    ensures { λ r. ⌜ r ≡ first (directoryRows (scanOf (now (s .entry))) ++ (metadataRows (now (s .entry)) ++ attachmentsRows (now (s .entry)))) ⌝ }
 {
     let v = directory::judge_directory(s, table, count);
     match v {
@@ -126,7 +127,7 @@ fn judge_named(s: &[u8], table: &[u64; 8192], count: usize) -> Verdict
 fn judge_walked(s: &[u8], table: &[u64; 8192], count: usize) -> Verdict
     requires { ⌜ Filled (now s) (now table) count ⌝ }
     requires { ⌜ 112 ≤ length (now s) ⌝ }
-    ensures { λ r. ⌜ r ≡ first (fileRows (now (s .entry)) ++ (directoryRows (now (s .entry)) ++ (metadataRows (now (s .entry)) ++ attachmentsRows (now (s .entry))))) ⌝ }
+    ensures { λ r. ⌜ r ≡ first (fileRows (now (s .entry)) ++ (directoryRows (scanOf (now (s .entry))) ++ (metadataRows (now (s .entry)) ++ attachmentsRows (now (s .entry))))) ⌝ }
 {
     let v = judge_file(s, table, count);
     match v {
@@ -137,7 +138,7 @@ fn judge_walked(s: &[u8], table: &[u64; 8192], count: usize) -> Verdict
 
 // The verdict on any bytes.
 pub fn judge(s: &[u8]) -> Verdict
-    ensures { λ r. ⌜ VerdictAnswered (verdict (now (s .entry))) r ⌝ }
+    ensures { λ r. ⌜ VerdictAnswered (verdict (scanOf (now (s .entry)))) r ⌝ }
 {
     let mut table = [0u64; 8192];
     let w = segments::walk(s, &mut table);
@@ -155,7 +156,7 @@ pub fn judge(s: &[u8]) -> Verdict
 
 // How many tiles there are: the entries of the sub-block directory.
 pub fn tile_count(s: &[u8]) -> u64
-    requires { ⌜ verdict (now s) ≡ Accepted ⌝ }
+    requires { ⌜ verdict (scanOf (now s)) ≡ Accepted ⌝ }
     ensures { λ r. ⌜ r ≡ tileCount (now (s .entry)) ⌝ }
 {
     fields::u32_at(s, fields::u64_at(s, 84) + 32)
@@ -163,7 +164,7 @@ pub fn tile_count(s: &[u8]) -> u64
 
 // How many attachments there are: none without an attachment directory.
 pub fn attachment_count(s: &[u8]) -> u64
-    requires { ⌜ verdict (now s) ≡ Accepted ⌝ }
+    requires { ⌜ verdict (scanOf (now s)) ≡ Accepted ⌝ }
     ensures { λ r. ⌜ r ≡ attachmentCount (now (s .entry)) ⌝ }
 {
     let t = fields::u64_at(s, 104);

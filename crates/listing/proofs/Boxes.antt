@@ -8,6 +8,7 @@ use native.Mathlib.Omega.{arith}
 use native.Mathlib.Numerals.{add-one}
 use native.Mathlib.Nat.{eq-or-lt-of-le, le-of-suc-le-suc}
 use lib.ListN.{length}
+use Rattle.format.specs.Scan.{scanOf}
 use Rattle.format.specs.Bytes.{anyBelow, leastBelow, biased}
 use Rattle.format.specs.File.{directoryPosition}
 use Rattle.format.specs.Entry.{nextEntry, letterPlace, isPyramid, dimensionsBad}
@@ -52,9 +53,9 @@ pub record Standing (bs : List ℕ) (e : ℕ) : Type 0 where
   pub dimensions : dimensionsBad bs e ≡ false
   pub planed : Planed bs e
 
-pub standing : (bs : List ℕ) → verdict bs ≡ Accepted → (k : ℕ) → k < tileCount bs → Standing bs (entryPlace bs k)
+pub standing : (bs : List ℕ) → verdict (scanOf bs) ≡ Accepted → (k : ℕ) → k < tileCount bs → Standing bs (entryPlace bs k)
 standing bs h k l =
-    let t = tiled bs h .tile k l .filled .agreed .placed .listed in
+    let t = tiled (scanOf bs) h .tile k l .filled .agreed .placed .listed in
     record { entry = t .entry; dimensions = t .dimensions; planed = dimensions-ok bs (entryPlace bs k) (t .dimensions) }
 
 -- ---- one tile more
@@ -79,7 +80,7 @@ least-near bs n pick place h =
     let l = least-is n pick h in
     omega (arith, least-at n (leastBelow n pick) pick (λ k. nearEdge bs (place k)) (l .below) (l .holds), near-fits bs (place (leastBelow n pick)))
 
-pub corners-held : (bs : List ℕ) → verdict bs ≡ Accepted → Held (cornersBelow bs (tileCount bs))
+pub corners-held : (bs : List ℕ) → verdict (scanOf bs) ≡ Accepted → Held (cornersBelow bs (tileCount bs))
 unfolding cornersBelow farEdge
 corners-held bs h =
     let n = tileCount bs in
@@ -111,7 +112,7 @@ module _ (bs : List ℕ) (n : ℕ) (c : Corners) (e k : ℕ) (i : Boxing bs n c 
     place = rw (add-one, i .place);
   }
 
-  pub boxing-here : verdict bs ≡ Accepted → n ≤ tileCount bs → Standing bs e
+  pub boxing-here : verdict (scanOf bs) ≡ Accepted → n ≤ tileCount bs → Standing bs e
   boxing-here h m = rw (i .place) (standing bs h k (omega arith))
 
 pub boxing-end : (bs : List ℕ) (n : ℕ) (c : Corners) (e k : ℕ) → Boxing bs n c e k → n ≤ k → c ≡ cornersBelow bs n

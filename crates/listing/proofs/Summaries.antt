@@ -2,6 +2,7 @@
 use Prim.Native.Nat.{ℕ}
 use mathlib.Core.Path.{_≡_, refl, ap, _∙_}
 use mathlib.Core.List.{List}
+use Rattle.format.specs.Scan.{scanOf}
 use Rattle.format.specs.Rules.{verdict}
 use Rattle.format.specs.Answers.{VerdictAnswered}
 use Rattle.format.specs.declared.Verdict.{Verdict}
@@ -14,15 +15,15 @@ use Rattle.listing.specs.declared.Summary.{Summary}
 use Rattle.listing.specs.declared.SummaryAnswer.the-variants as SummaryIs
 use Rattle.listing.proofs.Texts.{summary-by, figures-held}
 
-module _ (bs : List ℕ) {v : Verdict} (a : VerdictAnswered (verdict bs) v) where
-  pub summary-refused : (m p : ℕ) → v ≡ Refused m p → SummaryAnswered (verdict bs) (summaryOf bs) (SummaryIs.Refused m p)
+module _ (bs : List ℕ) {v : Verdict} (a : VerdictAnswered (verdict (scanOf bs)) v) where
+  pub summary-refused : (m p : ℕ) → v ≡ Refused m p → SummaryAnswered (verdict (scanOf bs)) (summaryOf bs) (SummaryIs.Refused m p)
   summary-refused m p h = rw (← a .answer-is, h) (record { answer-is = refl; number-is = refl; place-is = refl; summary-is = refl })
 
   module _ (h : v ≡ Accepted) {f : Figures} (e : f ≡ figuresOf bs) where
     pub held : Held (f .corners)
     held = figures-held bs f e (accepted a h)
 
-    pub summary-found : {r : Summary} → r ≡ summaryBy f → SummaryAnswered (verdict bs) (summaryOf bs) (SummaryIs.Found r)
+    pub summary-found : {r : Summary} → r ≡ summaryBy f → SummaryAnswered (verdict (scanOf bs)) (summaryOf bs) (SummaryIs.Found r)
     summary-found k =
         let s = k ∙ (ap summaryBy e ∙ summary-by bs) in
         rw (← a .answer-is, h) (record { answer-is = ap SummaryIs.Found s; number-is = refl; place-is = refl; summary-is = s })

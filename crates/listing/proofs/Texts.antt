@@ -4,6 +4,7 @@ use mathlib.Core.Path.{_≡_, refl, _∙_}
 use mathlib.Core.List.{List, []}
 use lib.ListN.{length}
 use borrow.Author.Tests.{lt-ltb, le-ltb}
+use Rattle.format.specs.Scan.{scanOf}
 use Rattle.format.specs.Rules.{verdict}
 use Rattle.format.specs.declared.Verdict.{Verdict}
 use Rattle.format.specs.declared.Verdict.the-variants.{Accepted, Refused}
@@ -27,7 +28,7 @@ text-by : (bs : List ℕ) → textBy (figuresOf bs) ≡ figuresText bs
 unfolding textBy figuresOf cornersBelow figuresText left top right bottom
 text-by bs = refl
 
-pub figures-held : (bs : List ℕ) (f : Figures) → f ≡ figuresOf bs → verdict bs ≡ Accepted → Held (f .corners)
+pub figures-held : (bs : List ℕ) (f : Figures) → f ≡ figuresOf bs → verdict (scanOf bs) ≡ Accepted → Held (f .corners)
 unfolding figuresOf
 figures-held bs f e h = rw e (corners-held bs h)
 
@@ -48,10 +49,10 @@ module _ (bs : List ℕ) (t : Text) where
   unfolding listingOf
   listing-long h s = (s .clean, s .text ∙ rw (lt-ltb 65536 (length bs) h))
 
-  pub listing-refused : (v : Verdict) (n p : ℕ) → length bs ≤ 65536 → v ≡ verdict bs → v ≡ Refused n p → Says t (refusalText n p) → Clean t × (textOf t ≡ listingOf bs)
+  pub listing-refused : (v : Verdict) (n p : ℕ) → length bs ≤ 65536 → v ≡ verdict (scanOf bs) → v ≡ Refused n p → Says t (refusalText n p) → Clean t × (textOf t ≡ listingOf bs)
   unfolding listingOf
   listing-refused v n p h j e s = (s .clean, s .text ∙ rw (le-ltb 65536 (length bs) h, ← j, e))
 
-  pub listing-accepted : (f : Figures) → length bs ≤ 65536 → verdict bs ≡ Accepted → f ≡ figuresOf bs → Says t (textBy f) → Clean t × (textOf t ≡ listingOf bs)
+  pub listing-accepted : (f : Figures) → length bs ≤ 65536 → verdict (scanOf bs) ≡ Accepted → f ≡ figuresOf bs → Says t (textBy f) → Clean t × (textOf t ≡ listingOf bs)
   unfolding listingOf
   listing-accepted f h a e s = (s .clean, s .text ∙ rw (le-ltb 65536 (length bs) h, a, e) (text-by bs))

@@ -4,6 +4,7 @@ use mathlib.Core.List.{List, [], _∷_, _++_}
 use mathlib.Core.Bool.{Bool, cond}
 use lib.ListN.{length}
 use lib.Dec.{ltb}
+use Rattle.format.specs.Scan.{scanOf}
 use Rattle.format.specs.Bytes.{anyBelow}
 use Rattle.format.specs.Segments.{walked}
 use Rattle.format.specs.Directory.{tileCount}
@@ -81,4 +82,4 @@ textIf (Refused n p) x = refusalText n p
 
 -- refusal 30, input over 65,536 bytes, goes before all
 unfoldable pub listingOf : List ℕ → List ℕ
-listingOf bs = cond (ltb 65536 (length bs)) (refusalText 30 0) (textIf (verdict bs) (figuresText bs))
+listingOf bs = cond (ltb 65536 (length bs)) (refusalText 30 0) (textIf (verdict (scanOf bs)) (figuresText bs))

@@ -6,6 +6,7 @@ ghost use mathlib.Core.Bool.{false};
 ghost use mathlib.Core.List.{_∷_};
 ghost use Prim.Native.Nat.{_+_, _^_, _≤_, _<_, min, max};
 ghost use lib.ListN.{length};
+ghost use Rattle.format.specs.Scan.{scanOf};
 ghost use Rattle.format.specs.Bytes.{signed32, biased};
 ghost use Rattle.format.specs.Segments.{walked};
 ghost use Rattle.format.specs.Entry.{nextEntry, dimensionsBad};
@@ -125,7 +126,7 @@ fn with_tile(c: Corners, s: &[u8], e: u64) -> Corners
 
 // The box over the first n entries.
 fn corners_of(s: &[u8], n: u64) -> Corners
-    requires { ⌜ (verdict (now s) ≡ Accepted) × (n ≤ tileCount (now s)) ⌝ }
+    requires { ⌜ (verdict (scanOf (now s)) ≡ Accepted) × (n ≤ tileCount (now s)) ⌝ }
     ensures { λ r. ⌜ r ≡ cornersBelow (now (s .entry)) n ⌝ }
 {
     let mut c = Corners {
@@ -149,7 +150,7 @@ fn corners_of(s: &[u8], n: u64) -> Corners
 
 // How many segments there are.
 fn segment_count(s: &[u8]) -> u64
-    requires { ⌜ verdict (now s) ≡ Accepted ⌝ }
+    requires { ⌜ verdict (scanOf (now s)) ≡ Accepted ⌝ }
     ensures { λ r. ⌜ r ≡ length (walked (now (s .entry))) ⌝ }
 {
     let w = segments::judge_segments(s);
@@ -158,7 +159,7 @@ fn segment_count(s: &[u8]) -> u64
 
 // The figures of an accepted file.
 fn figures_of(s: &[u8]) -> Figures
-    requires { ⌜ verdict (now s) ≡ Accepted ⌝ }
+    requires { ⌜ verdict (scanOf (now s)) ≡ Accepted ⌝ }
     ensures { λ r. ⌜ r ≡ figuresOf (now (s .entry)) ⌝ }
 {
     let bytes = s.len() as u64;
@@ -219,7 +220,7 @@ fn summary_of(f: Figures) -> Summary
 
 // The summary of a file of any size, or its refusal.
 pub fn summarize(s: &[u8]) -> SummaryAnswer
-    ensures { λ r. ⌜ SummaryAnswered (verdict (now (s .entry))) (summaryOf (now (s .entry))) r ⌝ }
+    ensures { λ r. ⌜ SummaryAnswered (verdict (scanOf (now (s .entry)))) (summaryOf (now (s .entry))) r ⌝ }
 {
     let v = judge::judge(s);
     match v {

@@ -8,6 +8,7 @@ use native.Mathlib.Omega.{arith}
 use lib.ListN.{length}
 use lib.Dec.{eqb, leb}
 use borrow.Author.Tests.{leb-false, eq-eqb}
+use Rattle.format.specs.Scan.{Scan, scanOf}
 use Rattle.format.specs.Checks.{Check, row, first}
 use Rattle.format.specs.File.{attachmentDirectoryPosition}
 use Rattle.format.specs.Entry.{dimensionCount, nextEntry, filePosition}
@@ -47,60 +48,60 @@ asked-both rows none h =
 
 -- ---- tiles
 
-pub record TileThere (bs : List ℕ) (n : ℕ) : Type 0 where
-  pub accepted : verdict bs ≡ Accepted
-  pub small : length bs ≤ 2 ^ 40
-  pub below : n < tileCount bs
-  pub entry : entryPlace bs n + 32 ≤ length bs
-  pub judged : Judged bs (entryPlace bs n) bs (filePosition bs (entryPlace bs n))
+pub record TileThere (sc : Scan) (n : ℕ) : Type 0 where
+  pub accepted : verdict sc ≡ Accepted
+  pub small : length (sc .file) ≤ 2 ^ 40
+  pub below : n < tileCount (sc .file)
+  pub entry : entryPlace (sc .file) n + 32 ≤ length (sc .file)
+  pub judged : Judged (sc .file) (entryPlace (sc .file) n) (sc .file) (filePosition (sc .file) (entryPlace (sc .file) n))
 
-pub tile-there : (bs : List ℕ) (n : ℕ) → tileVerdict bs n ≡ Accepted → TileThere bs n
+pub tile-there : (sc : Scan) (n : ℕ) → tileVerdict sc n ≡ Accepted → TileThere sc n
 unfolding verdict tileVerdict
-tile-there bs n h =
-    let both = asked-both (checks bs) (leb (tileCount bs) n) h in
-    let below = leb-false (tileCount bs) n (both .1) in
-    let file = tiled bs (both .0) in
+tile-there sc n h =
+    let both = asked-both (checks sc) (leb (tileCount (sc .file)) n) h in
+    let below = leb-false (tileCount (sc .file)) n (both .1) in
+    let file = tiled sc (both .0) in
     let judged = file .tile n below in
-    record { accepted = both .0; small = file .small; below = below; entry = listed-in bs (entryPlace bs n) (judged .filled .agreed .placed .listed); judged = judged }
+    record { accepted = both .0; small = file .small; below = below; entry = listed-in (sc .file) (entryPlace (sc .file) n) (judged .filled .agreed .placed .listed); judged = judged }
 
--- the sub-block at q of the entry at e of tile n
-module _ (bs : List ℕ) (n e q : ℕ) {v : Verdict} (a : VerdictAnswered (tileVerdict bs n) v) (h : v ≡ Accepted) (i : e ≡ entryPlace bs n) (j : q ≡ filePosition bs e) where
+-- the sub-block at q of the entry at e of tile n of the lent file bs
+module _ (bs : List ℕ) (n e q : ℕ) {v : Verdict} (a : VerdictAnswered (tileVerdict (scanOf bs) n) v) (h : v ≡ Accepted) (i : e ≡ entryPlace bs n) (j : q ≡ filePosition bs e) where
   pub judged-at : Judged bs e bs q
-  judged-at = rw (j, i) (tile-there bs n (accepted a h) .judged)
+  judged-at = rw (j, i) (tile-there (scanOf bs) n (accepted a h) .judged)
 
   pub filled-at : Filled bs e bs q
   filled-at = judged-at .filled
 
 -- the entry at e of tile k, before tile n
-module _ (bs : List ℕ) (n k e : ℕ) (h : tileVerdict bs n ≡ Accepted) (l : k < n) (p : e ≡ entryPlace bs k) where
-  pub entry-fits : (e + 32 + 20 * dimensionCount bs e ≤ length bs) × (length bs ≤ 2 ^ 40)
+module _ (sc : Scan) (n k e : ℕ) (h : tileVerdict sc n ≡ Accepted) (l : k < n) (p : e ≡ entryPlace (sc .file) k) where
+  pub entry-fits : (e + 32 + 20 * dimensionCount (sc .file) e ≤ length (sc .file)) × (length (sc .file) ≤ 2 ^ 40)
   unfolding nextEntry
   entry-fits =
-      let t = tile-there bs n h in
-      let file = tiled bs (t .accepted) in
+      let t = tile-there sc n h in
+      let file = tiled sc (t .accepted) in
       rw p (file .tile k (omega (arith, t .below)) .filled .agreed .placed .listed .entry, file .small)
 
-  pub entry-step : e + 32 + 20 * dimensionCount bs e ≡ entryPlace bs (k + 1)
+  pub entry-step : e + 32 + 20 * dimensionCount (sc .file) e ≡ entryPlace (sc .file) (k + 1)
   unfolding entryPlace nextEntry
   entry-step = rw (p, add-one)
 
 -- ---- dimensions of a tile
 
-pub dimension-asked : (bs : List ℕ) (n k : ℕ) → dimensionVerdict bs n k ≡ first (Asked (Asked (checks bs) (leb (tileCount bs) n)) (leb (dimensionCount bs (entryPlace bs n)) k))
+pub dimension-asked : (sc : Scan) (n k : ℕ) → dimensionVerdict sc n k ≡ first (Asked (Asked (checks sc) (leb (tileCount (sc .file)) n)) (leb (dimensionCount (sc .file) (entryPlace (sc .file) n)) k))
 unfolding dimensionVerdict
-dimension-asked bs n k = rw append-assoc
+dimension-asked sc n k = rw append-assoc
 
-pub record DimensionThere (bs : List ℕ) (n k : ℕ) : Type 0 where
-  pub tile : tileVerdict bs n ≡ Accepted
-  pub small : length bs ≤ 2 ^ 40
-  pub entry : entryPlace bs n + 32 + 20 * k + 20 ≤ length bs
+pub record DimensionThere (sc : Scan) (n k : ℕ) : Type 0 where
+  pub tile : tileVerdict sc n ≡ Accepted
+  pub small : length (sc .file) ≤ 2 ^ 40
+  pub entry : entryPlace (sc .file) n + 32 + 20 * k + 20 ≤ length (sc .file)
 
-pub dimension-there : (bs : List ℕ) (n k : ℕ) → dimensionVerdict bs n k ≡ Accepted → DimensionThere bs n k
+pub dimension-there : (sc : Scan) (n k : ℕ) → dimensionVerdict sc n k ≡ Accepted → DimensionThere sc n k
 unfolding tileVerdict nextEntry
-dimension-there bs n k h =
-    let both = asked-both (Asked (checks bs) (leb (tileCount bs) n)) (leb (dimensionCount bs (entryPlace bs n)) k) (sym (dimension-asked bs n k) ∙ h) in
-    let t = tile-there bs n (both .0) in
-    record { tile = both .0; small = t .small; entry = omega (arith, leb-false (dimensionCount bs (entryPlace bs n)) k (both .1), t .judged .filled .agreed .placed .listed .entry) }
+dimension-there sc n k h =
+    let both = asked-both (Asked (checks sc) (leb (tileCount (sc .file)) n)) (leb (dimensionCount (sc .file) (entryPlace (sc .file) n)) k) (sym (dimension-asked sc n k) ∙ h) in
+    let t = tile-there sc n (both .0) in
+    record { tile = both .0; small = t .small; entry = omega (arith, leb-false (dimensionCount (sc .file) (entryPlace (sc .file) n)) k (both .1), t .judged .filled .agreed .placed .listed .entry) }
 
 -- ---- attachments
 
@@ -112,16 +113,16 @@ attachments-some t n k h = ((λ e. let l = rw (eq-eqb t 0 e) at h in absurd (ome
     go true l = absurd (omega arith)
     go false l = l
 
-pub record AttachmentThere (bs : List ℕ) (n : ℕ) : Type 0 where
-  pub long : 112 ≤ length bs
-  pub small : length bs ≤ 2 ^ 40
-  pub attached : Attached bs (attachmentDirectoryPosition bs) n
+pub record AttachmentThere (sc : Scan) (n : ℕ) : Type 0 where
+  pub long : 112 ≤ length (sc .file)
+  pub small : length (sc .file) ≤ 2 ^ 40
+  pub attached : Attached sc (attachmentDirectoryPosition (sc .file)) n
 
-pub attachment-there : (bs : List ℕ) (n : ℕ) → attachmentVerdict bs n ≡ Accepted → AttachmentThere bs n
+pub attachment-there : (sc : Scan) (n : ℕ) → attachmentVerdict sc n ≡ Accepted → AttachmentThere sc n
 unfolding verdict attachmentVerdict attachmentCount
-attachment-there bs n h =
-    let both = asked-both (checks bs) (leb (attachmentCount bs) n) h in
-    let file = tiled bs (both .0) in
-    let t = attachmentDirectoryPosition bs in
-    let s = attachments-some t (attachmentEntryCount bs t) n (leb-false (attachmentCount bs) n (both .1)) in
-    record { long = file .long; small = file .small; attached = attached bs (both .0) (s .0) .1 n (s .1) }
+attachment-there sc n h =
+    let both = asked-both (checks sc) (leb (attachmentCount (sc .file)) n) h in
+    let file = tiled sc (both .0) in
+    let t = attachmentDirectoryPosition (sc .file) in
+    let s = attachments-some t (attachmentEntryCount (sc .file) t) n (leb-false (attachmentCount (sc .file)) n (both .1)) in
+    record { long = file .long; small = file .small; attached = attached sc (both .0) (s .0) .1 n (s .1) }

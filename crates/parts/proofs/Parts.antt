@@ -2,10 +2,11 @@
 use Prim.Native.Nat.{ℕ}
 use mathlib.Core.Path.{_≡_}
 use mathlib.Core.List.{List}
+use Rattle.format.specs.Scan.{Scan}
 use Rattle.format.specs.Entry.{filePosition}
 use Rattle.format.specs.Directory.{entryPlace}
 use Rattle.format.specs.Rules.{tileVerdict}
-use Rattle.format.specs.Records.{tileAt, tileOf, metadataSpan, pixelsSpan, attachmentSpan, tilePixels, tileMetadata, tileAttachment}
+use Rattle.format.specs.Records.{tileAt, tileRecord, metadataSpan, pixelsSpan, attachmentSpan, tilePixels, tileMetadata, tileAttachment}
 use Rattle.format.specs.Answers.{VerdictAnswered, SpanAnswered, TileAnswered}
 use Rattle.format.specs.declared.Verdict.{Verdict}
 use Rattle.format.specs.declared.Verdict.the-variants.{Accepted, Refused}
@@ -15,33 +16,33 @@ use Rattle.format.specs.declared.Tile.{Tile}
 use Rattle.format.specs.declared.TileAnswer.the-variants as TileIs
 use Rattle.format.proofs.Answering.{span-refused, span-found, tile-found}
 
-module _ (bs : List ℕ) (n : ℕ) {v : Verdict} (a : VerdictAnswered (tileVerdict bs n) v) where
+module _ (sc : Scan) (n : ℕ) {v : Verdict} (a : VerdictAnswered (tileVerdict sc n) v) where
   module _ {m p : ℕ} (h : v ≡ Refused m p) where
-    pub pixels-refused : SpanAnswered (tileVerdict bs n) (tilePixels bs n) (SpanIs.Refused m p)
+    pub pixels-refused : SpanAnswered (tileVerdict sc n) (tilePixels sc n) (SpanIs.Refused m p)
     unfolding tilePixels
     pixels-refused = span-refused a _ h
 
-    pub metadata-refused : SpanAnswered (tileVerdict bs n) (tileMetadata bs n) (SpanIs.Refused m p)
+    pub metadata-refused : SpanAnswered (tileVerdict sc n) (tileMetadata sc n) (SpanIs.Refused m p)
     unfolding tileMetadata
     metadata-refused = span-refused a _ h
 
-    pub attachment-refused : SpanAnswered (tileVerdict bs n) (tileAttachment bs n) (SpanIs.Refused m p)
+    pub attachment-refused : SpanAnswered (tileVerdict sc n) (tileAttachment sc n) (SpanIs.Refused m p)
     unfolding tileAttachment
     attachment-refused = span-refused a _ h
 
-  module _ (e q : ℕ) (h : v ≡ Accepted) (i : e ≡ entryPlace bs n) (j : q ≡ filePosition bs e) where
-    pub pixels-found : {r : Span} → r ≡ pixelsSpan bs e bs q → SpanAnswered (tileVerdict bs n) (tilePixels bs n) (SpanIs.Found r)
+  module _ (e q : ℕ) (h : v ≡ Accepted) (i : e ≡ entryPlace (sc .file) n) (j : q ≡ filePosition (sc .file) e) where
+    pub pixels-found : {r : Span} → r ≡ pixelsSpan (sc .file) e (sc .file) q → SpanAnswered (tileVerdict sc n) (tilePixels sc n) (SpanIs.Found r)
     unfolding tilePixels
     pixels-found k = span-found a h (rw (← i, ← j) k)
 
-    pub metadata-found : {r : Span} → r ≡ metadataSpan bs e bs q → SpanAnswered (tileVerdict bs n) (tileMetadata bs n) (SpanIs.Found r)
+    pub metadata-found : {r : Span} → r ≡ metadataSpan (sc .file) e (sc .file) q → SpanAnswered (tileVerdict sc n) (tileMetadata sc n) (SpanIs.Found r)
     unfolding tileMetadata
     metadata-found k = span-found a h (rw (← i, ← j) k)
 
-    pub attachment-found : {r : Span} → r ≡ attachmentSpan bs e bs q → SpanAnswered (tileVerdict bs n) (tileAttachment bs n) (SpanIs.Found r)
+    pub attachment-found : {r : Span} → r ≡ attachmentSpan (sc .file) e (sc .file) q → SpanAnswered (tileVerdict sc n) (tileAttachment sc n) (SpanIs.Found r)
     unfolding tileAttachment
     attachment-found k = span-found a h (rw (← i, ← j) k)
 
-    pub record-found : {r : Tile} → r ≡ tileAt n bs e bs q → TileAnswered (tileVerdict bs n) (tileOf bs n) (TileIs.Found r)
-    unfolding tileOf
+    pub record-found : {r : Tile} → r ≡ tileAt n (sc .file) e (sc .file) q → TileAnswered (tileVerdict sc n) (tileRecord sc n) (TileIs.Found r)
+    unfolding tileRecord
     record-found k = tile-found a h (rw (← i, ← j) k)

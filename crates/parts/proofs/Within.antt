@@ -8,6 +8,7 @@ use lib.ListN.{length}
 use denote.Ref.{RefT}
 use lib.Dec.{eqb}
 use borrow.Author.Tests.{eqb-false}
+use Rattle.format.specs.Scan.{scanOf}
 use Rattle.format.specs.File.{metadataPosition}
 use Rattle.format.specs.Entry.{filePosition}
 use Rattle.format.specs.Directory.{entryPlace}
@@ -39,24 +40,24 @@ module _ {v : Verdict} {s r : Span} {a : SpanAnswer} (h : SpanAnswered v s a) (e
   answered-view w = rw (← h .span-is, ← e) w
 
 module _ (bs : List ℕ) (n : ℕ) where
-  laid : tileVerdict bs n ≡ Accepted → Laid bs (entryPlace bs n) bs (filePosition bs (entryPlace bs n))
-  laid h = filled-in _ _ _ _ (tile-there bs n h .judged .filled)
+  laid : tileVerdict (scanOf bs) n ≡ Accepted → Laid bs (entryPlace bs n) bs (filePosition bs (entryPlace bs n))
+  laid h = filled-in _ _ _ _ (tile-there (scanOf bs) n h .judged .filled)
 
-  pub pixels-within : Within bs (tilePixels bs n)
+  pub pixels-within : Within bs (tilePixels (scanOf bs) n)
   unfolding tilePixels pixelsSpan
-  pixels-within = span-within bs (tileVerdict bs n) _ (λ h. laid h .pixels)
+  pixels-within = span-within bs (tileVerdict (scanOf bs) n) _ (λ h. laid h .pixels)
 
-  pub metadata-within : Within bs (tileMetadata bs n)
+  pub metadata-within : Within bs (tileMetadata (scanOf bs) n)
   unfolding tileMetadata metadataSpan
-  metadata-within = span-within bs (tileVerdict bs n) _ (λ h. laid h .metadata)
+  metadata-within = span-within bs (tileVerdict (scanOf bs) n) _ (λ h. laid h .metadata)
 
-  pub attachment-within : Within bs (tileAttachment bs n)
+  pub attachment-within : Within bs (tileAttachment (scanOf bs) n)
   unfolding tileAttachment attachmentSpan
-  attachment-within = span-within bs (tileVerdict bs n) _ (λ h. laid h .attachment)
+  attachment-within = span-within bs (tileVerdict (scanOf bs) n) _ (λ h. laid h .attachment)
 
-  pub data-within : Within bs (attachmentData bs n)
+  pub data-within : Within bs (attachmentData (scanOf bs) n)
   unfolding attachmentData attachmentDataSpan
-  data-within = span-within bs (attachmentVerdict bs n) _ (λ h. let a = attachment-there bs n h .attached in omega (arith, a .room-in, a .fits))
+  data-within = span-within bs (attachmentVerdict (scanOf bs) n) _ (λ h. let a = attachment-there (scanOf bs) n h .attached in omega (arith, a .room-in, a .fits))
 
 -- a stretch that is empty where m is 0
 some-within : (bs : List ℕ) (m : ℕ) (s : Span) → ((m ≡ 0 → ⊥) → Within bs s) → Within bs (cond (eqb m 0) (span 0 0) s)
@@ -67,10 +68,10 @@ some-within bs m s h = go (eqb m 0) refl
     go false e = h (eqb-false m 0 e)
 
 module _ (bs : List ℕ) where
-  pub xml-within : Within bs (commonXml bs)
+  pub xml-within : Within bs (commonXml (scanOf bs))
   unfolding commonXml xmlSpan
-  xml-within = span-within bs (verdict bs) _ (λ h. some-within bs (metadataPosition bs) _ (λ some. let d = described bs h some in omega (arith, d .room-in, d .fits)))
+  xml-within = span-within bs (verdict (scanOf bs)) _ (λ h. some-within bs (metadataPosition bs) _ (λ some. let d = described (scanOf bs) h some in omega (arith, d .room-in, d .fits)))
 
-  pub xml-attachment-within : Within bs (commonAttachment bs)
+  pub xml-attachment-within : Within bs (commonAttachment (scanOf bs))
   unfolding commonAttachment xmlAttachmentSpan
-  xml-attachment-within = span-within bs (verdict bs) _ (λ h. some-within bs (metadataPosition bs) _ (λ some. let d = described bs h some in omega (arith, d .room-in, d .fits)))
+  xml-attachment-within = span-within bs (verdict (scanOf bs)) _ (λ h. some-within bs (metadataPosition bs) _ (λ some. let d = described (scanOf bs) h some in omega (arith, d .room-in, d .fits)))

@@ -5,12 +5,13 @@ use format::SpanAnswer;
 use format::TileAnswer;
 use format::Verdict;
 ghost use mathlib.Core.Path.{_≡_};
+ghost use Rattle.format.specs.Scan.{scanOf};
 ghost use Rattle.format.specs.File.{metadataPosition, attachmentDirectoryPosition};
 ghost use Rattle.format.specs.Entry.{filePosition};
 ghost use Rattle.format.specs.Directory.{tileCount, entryPlace};
 ghost use Rattle.format.specs.Attachments.{attachmentCount, attachmentEntry, attachmentPosition};
 ghost use Rattle.format.specs.Rules.{verdict, tileVerdict, attachmentVerdict};
-ghost use Rattle.format.specs.Records.{span, dimensionVerdict, tileOf, dimensionOf, tilePixels, tileMetadata, tileAttachment, attachmentDataSpan, attachmentData, xmlSpan, xmlAttachmentSpan, commonXml, commonAttachment};
+ghost use Rattle.format.specs.Records.{span, dimensionVerdict, tileRecord, dimensionRecord, tilePixels, tileMetadata, tileAttachment, attachmentDataSpan, attachmentData, xmlSpan, xmlAttachmentSpan, commonXml, commonAttachment};
 ghost use Rattle.format.specs.Answers.{VerdictAnswered, SpanAnswered, TileAnswered, DimensionAnswered, spanIn};
 ghost use Rattle.format.specs.Views.{View};
 ghost use Rattle.format.specs.declared.Verdict.the-variants.{Accepted};
@@ -42,7 +43,7 @@ pub fn span_in(a: SpanAnswer) -> Span
 
 // The refusal of the file, or 24 where there is no tile n.
 pub fn tile_refusal(s: &[u8], n: u64) -> Verdict
-    ensures { λ r. ⌜ VerdictAnswered (tileVerdict (now (s .entry)) n) r ⌝ }
+    ensures { λ r. ⌜ VerdictAnswered (tileVerdict (scanOf (now (s .entry))) n) r ⌝ }
 {
     let v = judge::judge(s);
     match v {
@@ -61,7 +62,7 @@ pub fn tile_refusal(s: &[u8], n: u64) -> Verdict
 
 // Where the entry of tile n stands.
 fn entry_place(s: &[u8], n: u64) -> u64
-    requires { ⌜ tileVerdict (now s) n ≡ Accepted ⌝ }
+    requires { ⌜ tileVerdict (scanOf (now s)) n ≡ Accepted ⌝ }
     ensures { λ r. ⌜ r ≡ entryPlace (now (s .entry)) n ⌝ }
 {
     let mut e = fields::u64_at(s, 84) + 160;
@@ -75,7 +76,7 @@ fn entry_place(s: &[u8], n: u64) -> u64
 
 // Where the sub-block of tile n stands, whose entry is at e.
 fn sub_block_place(s: &[u8], n: u64, e: u64) -> u64
-    requires { ⌜ (tileVerdict (now s) n ≡ Accepted) × (e ≡ entryPlace (now s) n) ⌝ }
+    requires { ⌜ (tileVerdict (scanOf (now s)) n ≡ Accepted) × (e ≡ entryPlace (now s) n) ⌝ }
     ensures { λ r. ⌜ r ≡ filePosition (now (s .entry)) e ⌝ }
 {
     fields::u64_at(s, e + 6)
@@ -83,7 +84,7 @@ fn sub_block_place(s: &[u8], n: u64, e: u64) -> u64
 
 // The tile record of number n.
 pub fn tile(s: &[u8], n: u64) -> TileAnswer
-    ensures { λ r. ⌜ TileAnswered (tileVerdict (now (s .entry)) n) (tileOf (now (s .entry)) n) r ⌝ }
+    ensures { λ r. ⌜ TileAnswered (tileVerdict (scanOf (now (s .entry))) n) (tileRecord (scanOf (now (s .entry))) n) r ⌝ }
 {
     let v = tile_refusal(s, n);
     match v {
@@ -98,7 +99,7 @@ pub fn tile(s: &[u8], n: u64) -> TileAnswer
 
 // The stretch of the pixels of tile n.
 pub fn tile_pixels_span(s: &[u8], n: u64) -> SpanAnswer
-    ensures { λ r. ⌜ SpanAnswered (tileVerdict (now (s .entry)) n) (tilePixels (now (s .entry)) n) r ⌝ }
+    ensures { λ r. ⌜ SpanAnswered (tileVerdict (scanOf (now (s .entry))) n) (tilePixels (scanOf (now (s .entry))) n) r ⌝ }
 {
     let v = tile_refusal(s, n);
     match v {
@@ -113,7 +114,7 @@ pub fn tile_pixels_span(s: &[u8], n: u64) -> SpanAnswer
 
 // The pixels of tile n: the very bytes of the lent file.
 pub fn tile_pixels(s: &[u8], n: u64) -> &[u8]
-    ensures { λ r. ⌜ View (s .entry) (tilePixels (now (s .entry)) n) r ⌝ }
+    ensures { λ r. ⌜ View (s .entry) (tilePixels (scanOf (now (s .entry))) n) r ⌝ }
 {
     let view = span_in(tile_pixels_span(s, n));
     let start = view.start;
@@ -123,7 +124,7 @@ pub fn tile_pixels(s: &[u8], n: u64) -> &[u8]
 
 // The stretch of the metadata of tile n.
 pub fn tile_metadata_span(s: &[u8], n: u64) -> SpanAnswer
-    ensures { λ r. ⌜ SpanAnswered (tileVerdict (now (s .entry)) n) (tileMetadata (now (s .entry)) n) r ⌝ }
+    ensures { λ r. ⌜ SpanAnswered (tileVerdict (scanOf (now (s .entry))) n) (tileMetadata (scanOf (now (s .entry))) n) r ⌝ }
 {
     let v = tile_refusal(s, n);
     match v {
@@ -138,7 +139,7 @@ pub fn tile_metadata_span(s: &[u8], n: u64) -> SpanAnswer
 
 // The metadata of tile n.
 pub fn tile_metadata(s: &[u8], n: u64) -> &[u8]
-    ensures { λ r. ⌜ View (s .entry) (tileMetadata (now (s .entry)) n) r ⌝ }
+    ensures { λ r. ⌜ View (s .entry) (tileMetadata (scanOf (now (s .entry))) n) r ⌝ }
 {
     let view = span_in(tile_metadata_span(s, n));
     let start = view.start;
@@ -148,7 +149,7 @@ pub fn tile_metadata(s: &[u8], n: u64) -> &[u8]
 
 // The stretch of the attachment of tile n.
 pub fn tile_attachment_span(s: &[u8], n: u64) -> SpanAnswer
-    ensures { λ r. ⌜ SpanAnswered (tileVerdict (now (s .entry)) n) (tileAttachment (now (s .entry)) n) r ⌝ }
+    ensures { λ r. ⌜ SpanAnswered (tileVerdict (scanOf (now (s .entry))) n) (tileAttachment (scanOf (now (s .entry))) n) r ⌝ }
 {
     let v = tile_refusal(s, n);
     match v {
@@ -163,7 +164,7 @@ pub fn tile_attachment_span(s: &[u8], n: u64) -> SpanAnswer
 
 // The attachment of tile n.
 pub fn tile_attachment(s: &[u8], n: u64) -> &[u8]
-    ensures { λ r. ⌜ View (s .entry) (tileAttachment (now (s .entry)) n) r ⌝ }
+    ensures { λ r. ⌜ View (s .entry) (tileAttachment (scanOf (now (s .entry))) n) r ⌝ }
 {
     let view = span_in(tile_attachment_span(s, n));
     let start = view.start;
@@ -175,7 +176,7 @@ pub fn tile_attachment(s: &[u8], n: u64) -> &[u8]
 
 // The refusal of the file, or 24 where there is no tile n or no dimension k of it.
 pub fn dimension_refusal(s: &[u8], n: u64, k: u64) -> Verdict
-    ensures { λ r. ⌜ VerdictAnswered (dimensionVerdict (now (s .entry)) n k) r ⌝ }
+    ensures { λ r. ⌜ VerdictAnswered (dimensionVerdict (scanOf (now (s .entry))) n k) r ⌝ }
 {
     let v = tile_refusal(s, n);
     match v {
@@ -194,7 +195,7 @@ pub fn dimension_refusal(s: &[u8], n: u64, k: u64) -> Verdict
 
 // The dimension record of dimension k of tile n.
 pub fn dimension(s: &[u8], n: u64, k: u64) -> DimensionAnswer
-    ensures { λ r. ⌜ DimensionAnswered (dimensionVerdict (now (s .entry)) n k) (dimensionOf (now (s .entry)) n k) r ⌝ }
+    ensures { λ r. ⌜ DimensionAnswered (dimensionVerdict (scanOf (now (s .entry))) n k) (dimensionRecord (scanOf (now (s .entry))) n k) r ⌝ }
 {
     let v = dimension_refusal(s, n, k);
     match v {
@@ -210,7 +211,7 @@ pub fn dimension(s: &[u8], n: u64, k: u64) -> DimensionAnswer
 
 // The refusal of the file, or 24 where there is no attachment n.
 pub fn attachment_refusal(s: &[u8], n: u64) -> Verdict
-    ensures { λ r. ⌜ VerdictAnswered (attachmentVerdict (now (s .entry)) n) r ⌝ }
+    ensures { λ r. ⌜ VerdictAnswered (attachmentVerdict (scanOf (now (s .entry))) n) r ⌝ }
 {
     let v = judge::judge(s);
     match v {
@@ -229,7 +230,7 @@ pub fn attachment_refusal(s: &[u8], n: u64) -> Verdict
 
 // Where attachment n stands.
 fn attachment_place(s: &[u8], n: u64) -> u64
-    requires { ⌜ attachmentVerdict (now s) n ≡ Accepted ⌝ }
+    requires { ⌜ attachmentVerdict (scanOf (now s)) n ≡ Accepted ⌝ }
     ensures { λ r. ⌜ r ≡ attachmentPosition (now (s .entry)) (attachmentEntry (attachmentDirectoryPosition (now (s .entry))) n) ⌝ }
 {
     let e = fields::u64_at(s, 104) + 288 + 128 * n;
@@ -238,7 +239,7 @@ fn attachment_place(s: &[u8], n: u64) -> u64
 
 // The stretch of the data of attachment n, which stands at q.
 fn data_span(s: &[u8], n: u64, q: u64) -> Span
-    requires { ⌜ (attachmentVerdict (now s) n ≡ Accepted) × (q ≡ attachmentPosition (now s) (attachmentEntry (attachmentDirectoryPosition (now s)) n)) ⌝ }
+    requires { ⌜ (attachmentVerdict (scanOf (now s)) n ≡ Accepted) × (q ≡ attachmentPosition (now s) (attachmentEntry (attachmentDirectoryPosition (now s)) n)) ⌝ }
     ensures { λ r. ⌜ r ≡ attachmentDataSpan (now (s .entry)) q ⌝ }
 {
     let start = q + 288;
@@ -248,7 +249,7 @@ fn data_span(s: &[u8], n: u64, q: u64) -> Span
 
 // The stretch of the data of attachment n.
 pub fn attachment_data_span(s: &[u8], n: u64) -> SpanAnswer
-    ensures { λ r. ⌜ SpanAnswered (attachmentVerdict (now (s .entry)) n) (attachmentData (now (s .entry)) n) r ⌝ }
+    ensures { λ r. ⌜ SpanAnswered (attachmentVerdict (scanOf (now (s .entry))) n) (attachmentData (scanOf (now (s .entry))) n) r ⌝ }
 {
     let v = attachment_refusal(s, n);
     match v {
@@ -259,7 +260,7 @@ pub fn attachment_data_span(s: &[u8], n: u64) -> SpanAnswer
 
 // The data of attachment n.
 pub fn attachment_data(s: &[u8], n: u64) -> &[u8]
-    ensures { λ r. ⌜ View (s .entry) (attachmentData (now (s .entry)) n) r ⌝ }
+    ensures { λ r. ⌜ View (s .entry) (attachmentData (scanOf (now (s .entry))) n) r ⌝ }
 {
     let view = span_in(attachment_data_span(s, n));
     let start = view.start;
@@ -271,7 +272,7 @@ pub fn attachment_data(s: &[u8], n: u64) -> &[u8]
 
 // The stretch of the XML of an accepted file.
 fn xml_span(s: &[u8]) -> Span
-    requires { ⌜ verdict (now s) ≡ Accepted ⌝ }
+    requires { ⌜ verdict (scanOf (now s)) ≡ Accepted ⌝ }
     ensures { λ r. ⌜ r ≡ xmlSpan (now (s .entry)) (metadataPosition (now (s .entry))) ⌝ }
 {
     let m = fields::u64_at(s, 92);
@@ -285,7 +286,7 @@ fn xml_span(s: &[u8]) -> Span
 
 // The stretch of the attachment of an accepted file, behind the XML.
 fn xml_attachment_span(s: &[u8]) -> Span
-    requires { ⌜ verdict (now s) ≡ Accepted ⌝ }
+    requires { ⌜ verdict (scanOf (now s)) ≡ Accepted ⌝ }
     ensures { λ r. ⌜ r ≡ xmlAttachmentSpan (now (s .entry)) (metadataPosition (now (s .entry))) ⌝ }
 {
     let m = fields::u64_at(s, 92);
@@ -299,7 +300,7 @@ fn xml_attachment_span(s: &[u8]) -> Span
 
 // The stretch of the common XML.
 pub fn common_xml_span(s: &[u8]) -> SpanAnswer
-    ensures { λ r. ⌜ SpanAnswered (verdict (now (s .entry))) (commonXml (now (s .entry))) r ⌝ }
+    ensures { λ r. ⌜ SpanAnswered (verdict (scanOf (now (s .entry)))) (commonXml (scanOf (now (s .entry)))) r ⌝ }
 {
     let v = judge::judge(s);
     match v {
@@ -310,7 +311,7 @@ pub fn common_xml_span(s: &[u8]) -> SpanAnswer
 
 // The common XML.
 pub fn common_xml(s: &[u8]) -> &[u8]
-    ensures { λ r. ⌜ View (s .entry) (commonXml (now (s .entry))) r ⌝ }
+    ensures { λ r. ⌜ View (s .entry) (commonXml (scanOf (now (s .entry)))) r ⌝ }
 {
     let view = span_in(common_xml_span(s));
     let start = view.start;
@@ -320,7 +321,7 @@ pub fn common_xml(s: &[u8]) -> &[u8]
 
 // The stretch of the common XML's attachment.
 pub fn common_attachment_span(s: &[u8]) -> SpanAnswer
-    ensures { λ r. ⌜ SpanAnswered (verdict (now (s .entry))) (commonAttachment (now (s .entry))) r ⌝ }
+    ensures { λ r. ⌜ SpanAnswered (verdict (scanOf (now (s .entry)))) (commonAttachment (scanOf (now (s .entry)))) r ⌝ }
 {
     let v = judge::judge(s);
     match v {
@@ -331,7 +332,7 @@ pub fn common_attachment_span(s: &[u8]) -> SpanAnswer
 
 // The common XML's attachment.
 pub fn common_attachment(s: &[u8]) -> &[u8]
-    ensures { λ r. ⌜ View (s .entry) (commonAttachment (now (s .entry))) r ⌝ }
+    ensures { λ r. ⌜ View (s .entry) (commonAttachment (scanOf (now (s .entry)))) r ⌝ }
 {
     let view = span_in(common_attachment_span(s));
     let start = view.start;

@@ -4,6 +4,7 @@ use mathlib.Core.Path.{_≡_, _∙_}
 use mathlib.Core.List.{List, _++_}
 use mathlib.Core.Bool.{false, cond}
 use borrow.Author.Tests.{ltb-false}
+use Rattle.format.specs.Scan.{Scan}
 use Rattle.format.specs.Checks.{first}
 use Rattle.format.specs.Directory.{tileCount, entryPlace, directoryBad}
 use Rattle.format.specs.Rules.{checks, verdict}
@@ -18,35 +19,35 @@ use Rattle.question.proofs.Agreeing.{agree-ok, agree-accepted}
 
 -- the lent target and map have these lengths
 pub record Accepts (a : Asked) (target map : ℕ) : Type 0 where
-  pub file : first (checks (a .file)) ≡ Accepted
+  pub file : first (checks (a .scan)) ≡ Accepted
   pub window : windowBad (askedWindow a) ≡ false
   pub pixel : pixelBad (a .frame .«pixel_type») (a .background) ≡ false
   pub lent : lentBad (askedWindow a) (a .frame .«pixel_type») target map ≡ false
-  pub agree : (k : ℕ) → k < tileCount (a .file)
-      → cond (chosen a k) (typeBad (a .file) (askedWindow a) (a .frame .«pixel_type») (entryPlace (a .file) k)) false ≡ false
+  pub agree : (k : ℕ) → k < tileCount (a .scan .file)
+      → cond (chosen a k) (typeBad (a .scan .file) (askedWindow a) (a .frame .«pixel_type») (entryPlace (a .scan .file) k)) false ≡ false
 
 module _ (a : Asked) (target map : ℕ) where
   pub call-ok : callVerdict a target map ≡ Accepted → Accepts a target map
   unfolding callVerdict askRows
   call-ok e =
-      let whole = first-both (checks (a .file)) (askRows (a .frame) (a .background) target map ++ agreeRows (a .file) (chosen a) (a .frame)) e in
-      let asked = first-both (askRows (a .frame) (a .background) target map) (agreeRows (a .file) (chosen a) (a .frame)) (whole .1) in
+      let whole = first-both (checks (a .scan)) (askRows (a .frame) (a .background) target map ++ agreeRows (a .scan .file) (chosen a) (a .frame)) e in
+      let asked = first-both (askRows (a .frame) (a .background) target map) (agreeRows (a .scan .file) (chosen a) (a .frame)) (whole .1) in
       let g = passed (askRows (a .frame) (a .background) target map) (asked .0) in
       record {
         file = whole .0;
         window = g 0;
         pixel = g 1;
         lent = g 2;
-        agree = agree-ok (a .file) (chosen a) (a .frame) (asked .1);
+        agree = agree-ok (a .scan .file) (chosen a) (a .frame) (asked .1);
       }
 
   pub call-accepted : Accepts a target map → callVerdict a target map ≡ Accepted
   unfolding callVerdict askRows
   call-accepted p =
-      first-pass (checks (a .file)) _ (p .file)
-      ∙ (rw (p .window, p .pixel, p .lent) (agree-accepted (a .file) (chosen a) (a .frame) (p .agree)))
+      first-pass (checks (a .scan)) _ (p .file)
+      ∙ (rw (p .window, p .pixel, p .lent) (agree-accepted (a .scan .file) (chosen a) (a .frame) (p .agree)))
 
 -- an accepted file has at most 4,096 entries
-pub few-tiles : (bs : List ℕ) → first (checks bs) ≡ Accepted → tileCount bs ≤ 4096
+pub few-tiles : (sc : Scan) → first (checks sc) ≡ Accepted → tileCount (sc .file) ≤ 4096
 unfolding verdict tileCount directoryBad
-few-tiles bs e = ltb-false _ _ (none _ (directory-ok bs (verdict-parts bs e .directory) .0) 2)
+few-tiles sc e = ltb-false _ _ (none _ (directory-ok sc (verdict-parts sc e .directory) .0) 2)

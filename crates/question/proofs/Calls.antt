@@ -3,6 +3,7 @@ use Prim.Native.Nat.{ℕ}
 use mathlib.Core.Path.{_≡_, refl}
 use mathlib.Core.List.{List}
 use lib.ListN.{length}
+use Rattle.format.specs.Scan.{scanOf}
 use Rattle.format.specs.Directory.{tileCount}
 use Rattle.format.specs.declared.Verdict.{Verdict}
 use Rattle.format.specs.declared.Verdict.the-variants.{Accepted, Refused}
@@ -48,8 +49,8 @@ module _ (a : Asked) (t m : List ℕ) (e : callVerdict a (length t) (length m) �
   pub ranked : Ranked (selected a)
   unfolding selected
   ranked =
-      tiles-ranked (a .file) (masksOn (a .frame .masks)) (chosen a) (tileCount (a .file))
-      (few-tiles (a .file) (call-ok a (length t) (length m) e .file))
+      tiles-ranked (a .scan) (masksOn (a .frame .masks)) (chosen a) (tileCount (a .scan .file))
+      (few-tiles (a .scan) (call-ok a (length t) (length m) e .file))
 
   pub runs : Runs.Demand3 (askedBytes a) (a .background) (selected a)
   runs = demand3 (askedBytes a) (a .background) (selected a) ranked

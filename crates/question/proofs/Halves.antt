@@ -25,7 +25,7 @@ use Rattle.question.proofs.Calls.{room, after-is, covered-is}
 -- ---- a question that differs from another in its frame alone, and that in the window alone, which is w
 
 abbrev pub framed : Asked → Frame → Asked
-framed a f = record { file = a .file; starts = a .starts; anyScene = a .anyScene; frame = f; background = a .background }
+framed a f = record { scan = a .scan; starts = a .starts; anyScene = a .anyScene; frame = f; background = a .background }
 
 pub record Half (a : Asked) (w : Window) (f : Frame) : Type 0 where
   pub window : windowOf f ≡ w
@@ -74,7 +74,7 @@ module _ (a : Asked) (w : Window) (f : Frame) (h : Half a w f) where
       lent = lent-accepted (windowOf f) (f .«pixel_type») (length t) (length m) (r .target) (r .map);
       agree = λ k l.
           rw (h .type)
-          (type-less (a .file) (askedWindow a) (windowOf f) (a .frame .«pixel_type») (entryPlace (a .file) k)
+          (type-less (a .scan .file) (askedWindow a) (windowOf f) (a .frame .«pixel_type») (entryPlace (a .scan .file) k)
           (λ q i. less q (subst (λ (v : Window). Meets q v) (h .window) i))
           (chosen a k)
           (o .agree k l));

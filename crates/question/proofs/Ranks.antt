@@ -5,60 +5,61 @@ use mathlib.Core.Logic.{⊎-elim}
 use mathlib.Core.List.{List, _∷_, List·Memᴰ, List·Memᴰ·not-nil, List·Memᴰ·cases-cons}
 use mathlib.Core.Bool.{Bool, true, false, cond}
 use native.Mathlib.Omega.{arith}
+use Rattle.format.specs.Scan.{Scan}
 use Rattle.format.specs.Bytes.{anyBelow, biased}
 use Rattle.format.specs.Entry.{dimensionCount, start, hasLetter, letterPlace}
 use Rattle.format.specs.Directory.{entryPlace}
 use Rattle.plane.specs.Tiles.{Tile, Ranked}
-use Rattle.tiles.specs.FileTile.{rankOf, tileOf, fileTile, tilesBelow}
+use Rattle.tiles.specs.FileTile.{rankOf, entryTile, fileTile, tilesBelow}
 
 -- a rank shows its entry's number
-pub rank-entry : (bs : List ℕ) (k e : ℕ) → k < 4096 → rankOf bs k e % 4096 ≡ k
+pub rank-entry : (sc : Scan) (k e : ℕ) → k < 4096 → rankOf (sc .file) k e % 4096 ≡ k
 unfolding rankOf
-rank-entry bs k e h = go (anyBelow (dimensionCount bs e) (hasLetter bs e 77)) (biased (start bs (letterPlace bs e 77)))
+rank-entry sc k e h = go (anyBelow (dimensionCount (sc .file) e) (hasLetter (sc .file) e 77)) (biased (start (sc .file) (letterPlace (sc .file) e 77)))
   where
     go : (b : Bool) (x : ℕ) → cond b ((x + 1) * 4096 + k) k % 4096 ≡ k
     go true x = omega arith
     go false x = omega arith
 
-module _ (bs : List ℕ) (on : Bool) where
-  pub tile-rank : (k : ℕ) → k < 4096 → fileTile bs on k .rank % 4096 ≡ k
-  unfolding fileTile tileOf
-  tile-rank k h = rank-entry bs k (entryPlace bs k) h
+module _ (sc : Scan) (on : Bool) where
+  pub tile-rank : (k : ℕ) → k < 4096 → fileTile sc on k .rank % 4096 ≡ k
+  unfolding fileTile entryTile
+  tile-rank k h = rank-entry sc k (entryPlace (sc .file) k) h
 
   -- the tile is that of an entry below n
   pub record Entry (n : ℕ) (s : Tile) : Type 0 where
     pub number : ℕ
     pub below : number < n
-    pub tile : s ≡ fileTile bs on number
+    pub tile : s ≡ fileTile sc on number
 
   later : {n : ℕ} {s : Tile} → Entry n s → Entry (suc n) s
   later i = record { number = i .number; below = omega (arith, i .below); tile = i .tile }
 
-module _ (bs : List ℕ) (on : Bool) (chosen : ℕ → Bool) where
-  pub tiles-entry : (n : ℕ) {s : Tile} → List·Memᴰ s (tilesBelow n bs on chosen) → Entry bs on n s
+module _ (sc : Scan) (on : Bool) (chosen : ℕ → Bool) where
+  pub tiles-entry : (n : ℕ) {s : Tile} → List·Memᴰ s (tilesBelow n sc on chosen) → Entry sc on n s
   unfolding tilesBelow
   tiles-entry zero m = absurd (List·Memᴰ·not-nil m)
-  tiles-entry (suc n) {s} m = go (chosen n) (λ m. later bs on (tiles-entry n m)) m
+  tiles-entry (suc n) {s} m = go (chosen n) (λ m. later sc on (tiles-entry n m)) m
     where
-      go : (b : Bool) → (List·Memᴰ s (tilesBelow n bs on chosen) → Entry bs on (suc n) s)
-          → List·Memᴰ s (cond b (fileTile bs on n ∷ tilesBelow n bs on chosen) (tilesBelow n bs on chosen)) → Entry bs on (suc n) s
+      go : (b : Bool) → (List·Memᴰ s (tilesBelow n sc on chosen) → Entry sc on (suc n) s)
+          → List·Memᴰ s (cond b (fileTile sc on n ∷ tilesBelow n sc on chosen) (tilesBelow n sc on chosen)) → Entry sc on (suc n) s
       go true lower m = ⊎-elim (λ e. record { number = n; below = omega arith; tile = e }) lower (List·Memᴰ·cases-cons m)
       go false lower m = lower m
 
   -- the tile of entry n has another rank than those of the entries below it
-  apart : (n : ℕ) → n < 4096 → (s : Tile) → List·Memᴰ s (tilesBelow n bs on chosen) → fileTile bs on n .rank ≡ s .rank → ⊥
+  apart : (n : ℕ) → n < 4096 → (s : Tile) → List·Memᴰ s (tilesBelow n sc on chosen) → fileTile sc on n .rank ≡ s .rank → ⊥
   apart n h s m e =
       let i = tiles-entry n m in
       let l : i .number < n = i .below in
       let q : n ≡ i .number =
-      sym (tile-rank bs on n h) ∙ ap (λ (r : ℕ). r % 4096) (e ∙ ap (λ (t : Tile). t .rank) (i .tile)) ∙ tile-rank bs on (i .number) (omega arith) in
+      sym (tile-rank sc on n h) ∙ ap (λ (r : ℕ). r % 4096) (e ∙ ap (λ (t : Tile). t .rank) (i .tile)) ∙ tile-rank sc on (i .number) (omega arith) in
       omega arith
 
-  pub tiles-ranked : (n : ℕ) → n ≤ 4096 → Ranked (tilesBelow n bs on chosen)
+  pub tiles-ranked : (n : ℕ) → n ≤ 4096 → Ranked (tilesBelow n sc on chosen)
   unfolding tilesBelow
   tiles-ranked zero h = tt
   tiles-ranked (suc n) h = go (chosen n) (tiles-ranked n (omega arith))
     where
-      go : (b : Bool) → Ranked (tilesBelow n bs on chosen) → Ranked (cond b (fileTile bs on n ∷ tilesBelow n bs on chosen) (tilesBelow n bs on chosen))
+      go : (b : Bool) → Ranked (tilesBelow n sc on chosen) → Ranked (cond b (fileTile sc on n ∷ tilesBelow n sc on chosen) (tilesBelow n sc on chosen))
       go true r = (apart n (omega arith), r)
       go false r = r

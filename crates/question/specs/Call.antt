@@ -5,6 +5,7 @@ use mathlib.Core.List.{List, _++_}
 use mathlib.Core.Bool.{Bool}
 use lib.ListN.{length}
 use lib.IntN.{ℤ}
+use Rattle.format.specs.Scan.{Scan}
 use Rattle.format.specs.Checks.{first, ifAccepted, numberOf, placeOf}
 use Rattle.format.specs.Entry.{pixelBytes}
 use Rattle.format.specs.Directory.{tileCount, entryPlace}
@@ -23,7 +24,7 @@ use Rattle.question.specs.declared.Composed.the-variants as Ans
 
 -- what a call is given, the lent target and map aside
 pub record Asked : Type 0 where
-  pub file : List ℕ
+  pub scan : Scan
   pub starts : List ℤ
   pub anyScene : Bool
   pub frame : Frame
@@ -31,11 +32,11 @@ pub record Asked : Type 0 where
 
 -- entry k is chosen: its tile is selected
 abbrev pub chosen : Asked → ℕ → Bool
-chosen a k = selects (a .file) (a .starts) (a .anyScene) (entryPlace (a .file) k)
+chosen a k = selects (a .scan .file) (a .starts) (a .anyScene) (entryPlace (a .scan .file) k)
 
 -- the refusals in their order: the file's own, then 20, 21, 22, then 23; of lent bytes of these lengths
 unfoldable pub callVerdict : Asked → ℕ → ℕ → Verdict
-callVerdict a target map = first (checks (a .file) ++ (askRows (a .frame) (a .background) target map ++ agreeRows (a .file) (chosen a) (a .frame)))
+callVerdict a target map = first (checks (a .scan) ++ (askRows (a .frame) (a .background) target map ++ agreeRows (a .scan .file) (chosen a) (a .frame)))
 
 -- the window, bytes a pixel, and the selected tiles
 abbrev pub askedWindow : Asked → Window
@@ -45,7 +46,7 @@ abbrev pub askedBytes : Asked → ℕ
 askedBytes a = pixelBytes (a .frame .«pixel_type»)
 
 unfoldable pub selected : Asked → List Tile
-selected a = tilesBelow (tileCount (a .file)) (a .file) (masksOn (a .frame .masks)) (chosen a)
+selected a = tilesBelow (tileCount (a .scan .file)) (a .scan) (masksOn (a .frame .masks)) (chosen a)
 
 -- the composer's whole run over the lent bytes t and m
 abbrev pub painted : Kind → Asked → List ℕ → List ℕ → Painting

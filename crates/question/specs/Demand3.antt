@@ -32,10 +32,10 @@ rearFrame (column c) f = record { «pixel_type» = f .«pixel_type»; left = f .
 rearFrame (row c) f = record { «pixel_type» = f .«pixel_type»; left = f .left; top = f .top +ℤ pos c; width = f .width; height = f .height - c; masks = f .masks }
 
 abbrev pub foreOf : Line → Asked → Asked
-foreOf l a = record { file = a .file; starts = a .starts; anyScene = a .anyScene; frame = foreFrame l (a .frame); background = a .background }
+foreOf l a = record { scan = a .scan; starts = a .starts; anyScene = a .anyScene; frame = foreFrame l (a .frame); background = a .background }
 
 abbrev pub rearOf : Line → Asked → Asked
-rearOf l a = record { file = a .file; starts = a .starts; anyScene = a .anyScene; frame = rearFrame l (a .frame); background = a .background }
+rearOf l a = record { scan = a .scan; starts = a .starts; anyScene = a .anyScene; frame = rearFrame l (a .frame); background = a .background }
 
 -- a lent target and map with room enough for a question's window
 pub record RoomFor (a : Asked) (t m : List ℕ) : Type 0 where

@@ -10,6 +10,7 @@ use native.Mathlib.Numerals.{add-one}
 use lib.ListN.{length, getD, set, length-set}
 use lib.IntN.{ℤ}
 use lib.Seq.{getD-set-same, getD-set-other}
+use Rattle.format.specs.Scan.{scanOf}
 use Rattle.format.specs.Bytes.{u32At, u64At}
 use Rattle.format.specs.File.{directoryPosition}
 use Rattle.format.specs.Entry.{nextEntry}
@@ -31,9 +32,9 @@ pub record Selecting (bs : List ℕ) (starts : List ℤ) (anyScene : Bool) (befo
   pub rest : (i : ℕ) → k ≤ i → getD table i 0 ≡ getD before i 0
 
 -- the entries begin in an accepted file
-pub entries-within : (bs : List ℕ) (d : ℕ) → verdict bs ≡ Accepted → d ≡ u64At bs 84 → d + 160 ≤ length bs
+pub entries-within : (bs : List ℕ) (d : ℕ) → verdict (scanOf bs) ≡ Accepted → d ≡ u64At bs 84 → d + 160 ≤ length bs
 unfolding directoryPosition
-entries-within bs d a e = rw e (tiled bs a .entries)
+entries-within bs d a e = rw e (tiled (scanOf bs) a .entries)
 
 module _ (bs : List ℕ) (starts : List ℤ) (anyScene : Bool) (before : List ℕ) where
   pub selecting-start : (d n : ℕ) → length before ≡ 4096 → d ≡ u64At bs 84 → n ≡ u32At bs (d + 32) → Selecting bs starts anyScene before before n (d + 160) 0
@@ -50,16 +51,16 @@ module _ (bs : List ℕ) (starts : List ℤ) (anyScene : Bool) (before : List �
 
   module _ (t : List ℕ) (n e k : ℕ) (w : Selecting bs starts anyScene before t n e k) where
     -- the entry at e is one of an accepted file
-    pub selecting-listed : verdict bs ≡ Accepted → k < n → Listed bs e
+    pub selecting-listed : verdict (scanOf bs) ≡ Accepted → k < n → Listed bs e
     selecting-listed a h =
         let l : k < tileCount bs = rw (← w .whole) h in
-        rw (w .place) (tiled bs a .tile k l .filled .agreed .placed .listed)
+        rw (w .place) (tiled (scanOf bs) a .tile k l .filled .agreed .placed .listed)
 
     -- the entries fit the table
-    pub selecting-few : verdict bs ≡ Accepted → n ≤ 4096
-    selecting-few a = rw (w .whole) (tiled bs a .few)
+    pub selecting-few : verdict (scanOf bs) ≡ Accepted → n ≤ 4096
+    selecting-few a = rw (w .whole) (tiled (scanOf bs) a .few)
 
-    pub selecting-next : (v q : ℕ) → verdict bs ≡ Accepted → k < n → v ≡ cond (selects bs starts anyScene e) e 0 → q ≡ nextEntry bs e → Selecting bs starts anyScene before (set t k v) n q (k + 1)
+    pub selecting-next : (v q : ℕ) → verdict (scanOf bs) ≡ Accepted → k < n → v ≡ cond (selects bs starts anyScene e) e 0 → q ≡ nextEntry bs e → Selecting bs starts anyScene before (set t k v) n q (k + 1)
     unfolding entryPlace
     selecting-next v q a h f g = record {
       whole = w .whole;

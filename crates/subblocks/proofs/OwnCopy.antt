@@ -9,6 +9,7 @@ use borrow.Author.Tests.{not-false}
 use Rattle.format.specs.Bytes.{u32At}
 use Rattle.format.specs.Entry.{dimensionCount}
 use Rattle.format.specs.SubBlock.{copyBad, subBlockBad, metadataPlace, pixelsPlace, attachmentPlace}
+use Rattle.format.specs.Masks.{hasChunks}
 use Rattle.format.specs.Directory.{attachmentRows}
 use Rattle.format.proofs.Below.{none}
 use Rattle.fields.proofs.Words.{range-bytes, same-u32}
@@ -21,5 +22,5 @@ module _ (ds : List ℕ) (e : ℕ) (bs : List ℕ) (q : ℕ) (agree : subBlockBa
       rw at (same-u32 ds (e + 28) bs (q + 76) (λ i h. range-bytes (4 + 20 * u32At ds (e + 28)) ds (e + 28) bs (q + 76) (not-false _ (none _ (none _ agree 1) 1)) i (omega arith)))
 
   pub own-rows : attachmentRows ds e bs q ≡ attachmentRows bs (q + 48) bs q
-  unfolding attachmentRows metadataPlace pixelsPlace attachmentPlace
+  unfolding attachmentRows hasChunks metadataPlace pixelsPlace attachmentPlace
   own-rows = rw own-count

@@ -4,7 +4,7 @@ use mathlib.Core.Path.{_≡_, refl}
 use mathlib.Core.List.{List, []}
 use mathlib.Core.Bool.{Bool, true, false, cond}
 use Rattle.format.specs.Checks.{first}
-use Rattle.format.specs.Masks.{isContainer, chunksRows, maskFrom}
+use Rattle.format.specs.Masks.{hasChunks, chunksRows, maskFrom}
 use Rattle.format.specs.Directory.{attachmentRows}
 use Rattle.format.specs.Records.{maskOf}
 use Rattle.format.specs.declared.Verdict.the-variants.{Accepted}
@@ -72,14 +72,14 @@ filled-in ds e bs q f =
 -- an empty attachment has no chunks, whatever the metadata says
 pub no-attachment : (ds : List ℕ) (e : ℕ) (bs : List ℕ) (q : ℕ) → attachmentSize bs q ≡ 0 → (first (attachmentRows ds e bs q) ≡ Accepted) × (maskOf ds e bs q ≡ Unmasked)
 unfolding attachmentRows maskOf chunksRows maskFrom
-no-attachment ds e bs q h = rw h (go (isContainer bs (metadataPlace ds e q) (metadataSize bs q)))
+no-attachment ds e bs q h = rw h (go (hasChunks ds e bs q))
   where
     go : (b : Bool) → (first (cond b [] []) ≡ Accepted) × (cond b Unmasked Unmasked ≡ Unmasked)
     go true = (refl, refl)
     go false = (refl, refl)
 
 -- the chunks of a container whose rows accept
-pub container-chunks : (ds : List ℕ) (e : ℕ) (bs : List ℕ) (q : ℕ) → isContainer bs (metadataPlace ds e q) (metadataSize bs q) ≡ true → first (attachmentRows ds e bs q) ≡ Accepted
+pub container-chunks : (ds : List ℕ) (e : ℕ) (bs : List ℕ) (q : ℕ) → hasChunks ds e bs q ≡ true → first (attachmentRows ds e bs q) ≡ Accepted
     → first (chunksRows (attachmentSize bs q) bs (attachmentPlace ds e bs q + attachmentSize bs q) false (attachmentPlace ds e bs q)) ≡ Accepted
 unfolding attachmentRows
 container-chunks ds e bs q h a = rw h at a

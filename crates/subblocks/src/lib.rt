@@ -11,6 +11,7 @@ ghost use Rattle.format.specs.Checks.{first};
 ghost use Rattle.format.specs.Entry.{dimensionCount, nextEntry};
 ghost use Rattle.format.specs.SubBlock.{fixedPart, copyBad, subBlockBad, pixelsSize, contentsBad, metadataPlace, pixelsPlace, attachmentPlace};
 ghost use Rattle.format.specs.Directory.{attachmentRows};
+ghost use Rattle.format.specs.Masks.{hasChunks};
 ghost use Rattle.format.specs.Records.{metadataSpan, pixelsSpan, attachmentSpan, maskOf, tileAt};
 ghost use Rattle.subblocks.specs.Judged.{Listed, Placed, Agreed, Filled, Judged};
 
@@ -147,6 +148,14 @@ pub fn attachment_span(d: &[u8], e: u64, s: &[u8], q: u64) -> Span
     Span { start, length }
 }
 
+// Whether the attachment is a chunk container: the metadata is searched for the marker.
+fn has_chunks(d: &[u8], e: u64, s: &[u8], q: u64) -> bool
+    requires { ⌜ Filled (now d) e (now s) q ⌝ }
+    ensures { λ r. ⌜ r ≡ hasChunks (now (d .entry)) e (now (s .entry)) q ⌝ }
+{
+    masks::is_container(s, metadata_place(d, e, s, q), fields::u32_at(s, q + 32))
+}
+
 // Refusals 17 and 18 of the attachment, whose metadata is searched only where there is one.
 pub fn judge_attachment(d: &[u8], e: u64, s: &[u8], q: u64) -> Verdict
     requires { ⌜ Filled (now d) e (now s) q ⌝ }
@@ -156,7 +165,7 @@ pub fn judge_attachment(d: &[u8], e: u64, s: &[u8], q: u64) -> Verdict
     if n == 0 {
         return Verdict::Accepted;
     }
-    if !masks::is_container(s, metadata_place(d, e, s, q), fields::u32_at(s, q + 32)) {
+    if !has_chunks(d, e, s, q) {
         return Verdict::Accepted;
     }
     let a = attachment_place(d, e, s, q);
@@ -172,7 +181,7 @@ pub fn mask_of(d: &[u8], e: u64, s: &[u8], q: u64) -> TileMask
     if n == 0 {
         return TileMask::Unmasked;
     }
-    if !masks::is_container(s, metadata_place(d, e, s, q), fields::u32_at(s, q + 32)) {
+    if !has_chunks(d, e, s, q) {
         return TileMask::Unmasked;
     }
     let a = attachment_place(d, e, s, q);

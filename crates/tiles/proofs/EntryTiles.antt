@@ -11,7 +11,7 @@ use lib.Seq.{take-all, getD-drop}
 use borrow.Author.Tests.{eqb-true, not-false}
 use Rattle.format.specs.Entry.{pixelType, pixelBytes, filePosition, size, stored, letterPlace, isPyramid}
 use Rattle.format.specs.SubBlock.{metadataSize, attachmentSize, metadataPlace, pixelsPlace, attachmentPlace, pixelsSize}
-use Rattle.format.specs.Masks.{isContainer, maskWidth, maskHeight, maskStride, maskShape, maskFrom, maskByte, maskValid}
+use Rattle.format.specs.Masks.{hasChunks, maskWidth, maskHeight, maskStride, maskShape, maskFrom, maskByte, maskValid}
 use Rattle.format.specs.Records.{maskOf}
 use Rattle.format.specs.declared.MaskShape.{MaskShape}
 use Rattle.format.specs.declared.TileMask.{TileMask}
@@ -28,15 +28,15 @@ use Rattle.turns.specs.TileOf.{windowOf, validIn, covers as turnsCovers, tileOf
 use Rattle.turns.specs.Turned.{kindOf, TurnRoom, Turned}
 use Rattle.turns.specs.declared.Rect.{Rect}
 use Rattle.turns.specs.declared.Mask.{Mask}
-use Rattle.tiles.specs.FileTile.{rankOf, rectangle, covers, unmasked, tileOf}
+use Rattle.tiles.specs.FileTile.{rankOf, rectangle, covers, unmasked, entryTile}
 use Rattle.tiles.specs.Painted.{PaintRoom, Painted, LinesRoom, rectOf, TurnedBehind}
 use Rattle.tiles.proofs.Rectangles.{rectangle-edges}
 
 -- ---- equal tiles
 
 -- masks on and off are the same where there is no mask
-open-tile : (bs : List ℕ) (k e q : ℕ) → maskOf bs e bs q ≡ Unmasked → tileOf bs false k e q ≡ tileOf bs true k e q
-unfolding tileOf
+open-tile : (bs : List ℕ) (k e q : ℕ) → maskOf bs e bs q ≡ Unmasked → entryTile bs false k e bs q ≡ entryTile bs true k e bs q
+unfolding entryTile
 open-tile bs k e q h i = record {
   rank = rankOf bs k e;
   gives = λ u v. covers (rectangle bs e) u v && unmasked bs (sym h i) (u - rectangle bs e .left) (v - rectangle bs e .top);
@@ -47,8 +47,8 @@ open-tile bs k e q h i = record {
 -- the mask m of these lines says of each pixel what the tile's own says
 same-tile : (bs : List ℕ) (on : Bool) (k e q : ℕ) (m : Mask) (lines : List ℕ)
     → ((x y : ℕ) → validIn m lines x y ≡ (not on || unmasked bs (maskOf bs e bs q) x y))
-    → turnsTile (rankOf bs k e) (rectOf (rectangle bs e)) (pixelBytes (pixelType bs e)) (drop (pixelsPlace bs e bs q) bs) m lines ≡ tileOf bs on k e q
-unfolding tileOf turnsTile covers turnsCovers
+    → turnsTile (rankOf bs k e) (rectOf (rectangle bs e)) (pixelBytes (pixelType bs e)) (drop (pixelsPlace bs e bs q) bs) m lines ≡ entryTile bs on k e bs q
+unfolding entryTile turnsTile covers turnsCovers
 same-tile bs on k e q m lines h i = record {
   rank = rankOf bs k e;
   gives = λ u v. covers (rectangle bs e) u v && h (u - rectangle bs e .left) (v - rectangle bs e .top) i;
@@ -141,9 +141,9 @@ mask-in bs end c shape h i =
 
 pub mask-lined : (bs : List ℕ) (e q c : ℕ) (shape : MaskShape) → Judged bs e bs q → maskOf bs e bs q ≡ Masked c shape → Lined bs c shape
 unfolding maskOf
-mask-lined bs e q c shape j h = go (isContainer bs (metadataPlace bs e q) (metadataSize bs q)) refl h
+mask-lined bs e q c shape j h = go (hasChunks bs e bs q) refl h
   where
-    go : (b : Bool) → isContainer bs (metadataPlace bs e q) (metadataSize bs q) ≡ b
+    go : (b : Bool) → hasChunks bs e bs q ≡ b
         → cond b (maskFrom (attachmentSize bs q) bs (attachmentPlace bs e bs q + attachmentSize bs q) (attachmentPlace bs e bs q)) Unmasked ≡ Masked c shape → Lined bs c shape
     go true y h =
         mask-in bs (attachmentPlace bs e bs q + attachmentSize bs q) c shape (filled-in bs e bs q (j .filled) .attachment)

@@ -15,7 +15,7 @@ use Rattle.entries.proofs.EntryLaws.{dimensions-ok}
 use Rattle.subblocks.specs.Judged.{Listed}
 use Rattle.plane.specs.Tiles.{Window, area, colOf, rowOf, givesAt}
 use Rattle.plane.proofs.Tests.{by-bool}
-use Rattle.tiles.specs.FileTile.{rectangle, covers, meets, tileOf}
+use Rattle.tiles.specs.FileTile.{rectangle, covers, meets, entryTile}
 
 pub biased-fits : (x : ℕ) → biased x < 2 ^ 32
 unfolding biased
@@ -90,8 +90,8 @@ covers-meets a w p h l e =
 
 -- a tile that does not meet the window gives none of its pixels
 pub gives-none : (bs : List ℕ) (on : Bool) (k e q : ℕ) (w : Window) → meets (rectangle bs e) w ≡ false → 1 ≤ w .width → (p : ℕ) → p < area w
-    → givesAt w (tileOf bs on k e q) p ≡ false
-unfolding tileOf
+    → givesAt w (entryTile bs on k e bs q) p ≡ false
+unfolding entryTile
 gives-none bs on k e q w m h p l =
     by-bool (covers (rectangle bs e) (colOf w p) (rowOf w p))
     (λ c. absurd (true≢false (covers-meets (rectangle bs e) w p h l c ∙ m)))

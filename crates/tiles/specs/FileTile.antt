@@ -6,11 +6,11 @@ use mathlib.Core.Bool.{Bool, true, cond, not, _&&_, _||_}
 use lib.ListN.{getD}
 use lib.Dec.{leb, ltb}
 use Rattle.format.specs.Bytes.{anyBelow, biased}
-use Rattle.format.specs.Entry.{pixelType, pixelBytes, filePosition, dimensionCount, start, size, hasLetter, letterPlace}
+use Rattle.format.specs.Scan.{Scan}
+use Rattle.format.specs.Entry.{pixelType, pixelBytes, dimensionCount, start, size, hasLetter, letterPlace}
 use Rattle.format.specs.SubBlock.{pixelsPlace}
 use Rattle.format.specs.Masks.{maskValid}
-use Rattle.format.specs.Directory.{entryPlace}
-use Rattle.format.specs.Records.{maskOf}
+use Rattle.format.specs.Records.{maskOf, tileEntry, tileFile, tilePosition}
 use Rattle.format.specs.declared.TileMask.{TileMask}
 use Rattle.format.specs.declared.TileMask.the-variants.{Unmasked, Masked}
 use Rattle.plane.specs.Tiles.{Tile, Window}
@@ -47,19 +47,20 @@ abbrev pub unmasked : List ℕ → TileMask → ℕ → ℕ → Bool
 unmasked bs Unmasked x y = true
 unmasked bs (Masked c shape) x y = maskValid bs c x y
 
--- the tile of entry k, at e, its sub-block at q; masks on or off
-unfoldable pub tileOf : List ℕ → Bool → ℕ → ℕ → ℕ → Tile
-tileOf bs on k e q = record {
-  rank = rankOf bs k e;
-  gives = λ u v. covers (rectangle bs e) u v && (not on || unmasked bs (maskOf bs e bs q) (u - rectangle bs e .left) (v - rectangle bs e .top));
+-- the tile of entry k, which stands at e of the file ds, its sub-block at q of the file bs; masks on or off
+unfoldable pub entryTile : List ℕ → Bool → ℕ → ℕ → List ℕ → ℕ → Tile
+entryTile ds on k e bs q = record {
+  rank = rankOf ds k e;
+  gives = λ u v. covers (rectangle ds e) u v && (not on || unmasked bs (maskOf ds e bs q) (u - rectangle ds e .left) (v - rectangle ds e .top));
   byte = λ u v j.
-      getD bs (pixelsPlace bs e bs q + (((v - rectangle bs e .top) * rectangle bs e .width + (u - rectangle bs e .left)) * pixelBytes (pixelType bs e) + j)) 0;
+      getD bs (pixelsPlace ds e bs q + (((v - rectangle ds e .top) * rectangle ds e .width + (u - rectangle ds e .left)) * pixelBytes (pixelType ds e) + j)) 0;
 }
 
-unfoldable pub fileTile : List ℕ → Bool → ℕ → Tile
-fileTile bs on k = tileOf bs on k (entryPlace bs k) (filePosition bs (entryPlace bs k))
+-- the tile of entry k of a scan
+unfoldable pub fileTile : Scan → Bool → ℕ → Tile
+fileTile sc on k = entryTile (sc .file) on k (tileEntry sc k) (tileFile sc k) (tilePosition sc k)
 
 -- the tiles of the chosen entries below n
-unfoldable pub tilesBelow : ℕ → List ℕ → Bool → (ℕ → Bool) → List Tile
-tilesBelow zero bs on chosen = []
-tilesBelow (suc n) bs on chosen = cond (chosen n) (fileTile bs on n ∷ tilesBelow n bs on chosen) (tilesBelow n bs on chosen)
+unfoldable pub tilesBelow : ℕ → Scan → Bool → (ℕ → Bool) → List Tile
+tilesBelow zero sc on chosen = []
+tilesBelow (suc n) sc on chosen = cond (chosen n) (fileTile sc on n ∷ tilesBelow n sc on chosen) (tilesBelow n sc on chosen)

@@ -14,7 +14,7 @@ use Rattle.turns.specs.TileOf.{windowOf}
 use Rattle.turns.specs.Turned.{kindOf, Turned}
 use Rattle.turns.specs.declared.Rect.{Rect}
 use Rattle.turns.specs.declared.Mask.{Mask}
-use Rattle.tiles.specs.FileTile.{rectangle, tileOf}
+use Rattle.tiles.specs.FileTile.{rectangle, entryTile}
 
 -- the entry at e of the file bs is judged, its tile is no pyramid tile, and the window w has room in the target t and the map m and edges that fit 64 bits
 pub record PaintRoom (t m bs : List ℕ) (e : ℕ) (w : Rect) : Type 0 where
@@ -28,7 +28,7 @@ pub record PaintRoom (t m bs : List ℕ) (e : ℕ) (w : Rect) : Type 0 where
 pub record Painted (t m bs : List ℕ) (on : Bool) (e : ℕ) (w : Rect) (q : Bool) (t′ m′ : List ℕ) (r : ℕ) : Type 0 where
   pub painted : (k stored : ℕ)
       → _≡_ {A = Painting} (record { target = t′; map = m′; stored = stored + r })
-      (turn (kindOf q) (windowOf w) (pixelBytes (pixelType bs e)) (tileOf bs on k e (filePosition bs e)) (record { target = t; map = m; stored = stored }))
+      (turn (kindOf q) (windowOf w) (pixelBytes (pixelType bs e)) (entryTile bs on k e bs (filePosition bs e)) (record { target = t; map = m; stored = stored }))
 
 -- ---- the same, with the mask given by its dimensions and its lines
 

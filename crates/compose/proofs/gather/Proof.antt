@@ -2,6 +2,7 @@
 use Prim.Native.Nat.{_-_, _≤_}
 use mathlib.Core.Path.{_≡_}
 use native.Mathlib.Omega.{arith}
+use Rattle.format.specs.Scan.{scanOf}
 use Rattle.turns.specs.TileOf.{windowOf}
 use Rattle.judge.proofs.AcceptedFile.{tiled}
 use Rattle.compose.specs.Steps.{Gathered}

@@ -5,6 +5,7 @@ use mathlib.Core.List.{reverse}
 use mathlib.Core.Bool.{true}
 use native.Mathlib.Omega.{arith}
 use lib.ListN.{drop}
+use Rattle.format.specs.Scan.{scanOf}
 use Rattle.judge.proofs.AcceptedFile.{tiled}
 use Rattle.compose.specs.Steps.{RunRoom}
 use Rattle.compose.proofs.Running.{Painting-is, tiles, down-start, down-from, key-room, stored-small, same-target, same-map}
@@ -13,7 +14,7 @@ use Rattle.compose.proofs.paint_down.Tie as tie
 
 abbrev Inv-loop : tie.InvT-loop
 Inv-loop target₀ map₀ s table keys count w t on stored₀ i₀ target map stored i =
-    (i ≤ count) × ((r : RunRoom target₀ map₀ s table keys count w t) → Painting-is target₀ map₀ s table keys count w t r on true (reverse (drop i (tiles target₀ map₀ s table keys count w t r on true))) target map stored)
+    (i ≤ count) × ((r : RunRoom target₀ map₀ (scanOf s) table keys count w t) → Painting-is target₀ map₀ (scanOf s) table keys count w t r on true (reverse (drop i (tiles target₀ map₀ (scanOf s) table keys count w t r on true))) target map stored)
 
 abbrev μ-loop : tie.MeasureT-loop
 μ-loop target₀ map₀ s table keys count w t on stored₀ i₀ target map stored i = i

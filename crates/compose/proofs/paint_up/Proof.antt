@@ -4,6 +4,7 @@ use mathlib.Core.Path.{_≡_}
 use mathlib.Core.Bool.{false}
 use native.Mathlib.Omega.{arith}
 use lib.ListN.{take}
+use Rattle.format.specs.Scan.{scanOf}
 use Rattle.judge.proofs.AcceptedFile.{tiled}
 use Rattle.compose.specs.Steps.{RunRoom}
 use Rattle.compose.proofs.Running.{Painting-is, tiles, up-start, up-next, up-end, key-room, stored-small, same-target, same-map}
@@ -12,7 +13,7 @@ use Rattle.compose.proofs.paint_up.Tie as tie
 
 abbrev Inv-loop : tie.InvT-loop
 Inv-loop target₀ map₀ s table keys count w t on stored₀ i₀ target map stored i =
-    (i ≤ count) × ((r : RunRoom target₀ map₀ s table keys count w t) → Painting-is target₀ map₀ s table keys count w t r on false (take i (tiles target₀ map₀ s table keys count w t r on false)) target map stored)
+    (i ≤ count) × ((r : RunRoom target₀ map₀ (scanOf s) table keys count w t) → Painting-is target₀ map₀ (scanOf s) table keys count w t r on false (take i (tiles target₀ map₀ (scanOf s) table keys count w t r on false)) target map stored)
 
 abbrev μ-loop : tie.MeasureT-loop
 μ-loop target₀ map₀ s table keys count w t on stored₀ i₀ target map stored i = count - i

@@ -3,6 +3,7 @@ use mathlib.Core.Path.{sym, _∙_}
 use mathlib.Core.List.{_++_}
 use native.Mathlib.Omega.{arith}
 use denote.Ref.{now}
+use Rattle.format.specs.Scan.{scanOf}
 use Rattle.format.specs.Names.{nameSubBlock}
 use Rattle.format.specs.Entry.{nextEntry, filePosition}
 use Rattle.format.specs.Directory.{tileRows, subBlockRows, attachmentRows}
@@ -49,7 +50,7 @@ returns c =
     let a = c .before .before .before .before .before .before .before .before .args in
     let bs = now (a .s) in
     let q = filePosition bs (a .e) in
-    answered-stop bs _ _ (tileRows bs (a .e)) (subBlockRows bs (a .e) bs q ++ attachmentRows bs (a .e) bs q) _ _ (c .before .before .before .before .before .before .before .before .pre .1 .0) (c .before .before .before .judge-tile .ensures) (c .before .v .given .1)
+    answered-stop bs _ _ (tileRows (scanOf bs) (a .e)) (subBlockRows bs (a .e) bs q ++ attachmentRows bs (a .e) bs q) _ _ (c .before .before .before .before .before .before .before .before .pre .1 .0) (c .before .before .before .judge-tile .ensures) (c .before .v .given .1)
 
 returns-2 : tie.Need-returns-2
 unfolding filePosition
@@ -58,7 +59,7 @@ returns-2 c =
     let bs = now (a .s) in
     let q = c .before .before .before .before .before .before .before .u64-at .result in
     rw (← c .before .before .before .before .before .before .before .u64-at .ensures)
-    (answered-next bs _ _ _ (tileRows bs (a .e)) (subBlockRows bs (a .e) bs q ++ attachmentRows bs (a .e) bs q) (c .before .before .before .before .judge-tile .ensures) (c .before .before .enum-told .given .1) (c .judge-block .ensures))
+    (answered-next bs _ _ _ (tileRows (scanOf bs) (a .e)) (subBlockRows bs (a .e) bs q ++ attachmentRows bs (a .e) bs q) (c .before .before .before .before .judge-tile .ensures) (c .before .before .enum-told .given .1) (c .judge-block .ensures))
 
 pub judge-body-spec : {M : Type 1} → statement M
 judge-body-spec =

@@ -2,6 +2,7 @@
 use mathlib.Core.Path.{sym, _∙_}
 use mathlib.Core.List.{_++_}
 use denote.Ref.{now}
+use Rattle.format.specs.Scan.{scanOf}
 use Rattle.format.specs.Entry.{filePosition}
 use Rattle.format.specs.Directory.{headRows, tileRows, subBlockRows, attachmentRows, entryRows}
 use Rattle.directory.proofs.Stages.{headed}
@@ -31,7 +32,7 @@ returns c =
     let a = c .before .before .before .before .before .args in
     let bs = now (a .s) in
     let q = filePosition bs (a .e) in
-    let rest = tileRows bs (a .e) ++ (subBlockRows bs (a .e) bs q ++ attachmentRows bs (a .e) bs q) in
+    let rest = tileRows (scanOf bs) (a .e) ++ (subBlockRows bs (a .e) bs q ++ attachmentRows bs (a .e) bs q) in
     answered-stop bs _ _ (headRows bs (a .d) (a .e)) rest _ _ (c .before .before .before .before .before .pre .1 .0) (c .before .before .before .judge-head .ensures) (c .before .v .given .1)
 
 returns-2 : tie.Need-returns-2
@@ -40,7 +41,7 @@ returns-2 c =
     let a = c .before .before .before .before .before .before .args in
     let bs = now (a .s) in
     let q = filePosition bs (a .e) in
-    let rest = tileRows bs (a .e) ++ (subBlockRows bs (a .e) bs q ++ attachmentRows bs (a .e) bs q) in
+    let rest = tileRows (scanOf bs) (a .e) ++ (subBlockRows bs (a .e) bs q ++ attachmentRows bs (a .e) bs q) in
     answered-next bs _ _ _ (headRows bs (a .d) (a .e)) rest (c .before .before .before .before .judge-head .ensures) (c .before .before .enum-told .given .1) (c .judge-body .ensures)
 
 pub judge-entry-spec : {M : Type 1} → statement M

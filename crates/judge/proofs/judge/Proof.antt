@@ -2,6 +2,7 @@
 use Prim.Native.Nat.{ℕ}
 use mathlib.Core.Path.{sym, _∙_}
 use denote.Ref.{now}
+use Rattle.format.specs.Scan.{scanOf}
 use Rattle.directory.proofs.Stages.{then-stop, then-next}
 use lib.ListN.{length-replicate}
 use mathlib.Core.List.{_++_}
@@ -33,13 +34,13 @@ returns : tie.Need-returns
 unfolding verdict checks
 returns c =
     let bs = now (c .before .before .before .before .before .before .args .s) in
-    verdict-answered (then-stop _ (segmentsRows bs) (fileRows bs ++ (directoryRows bs ++ (metadataRows bs ++ attachmentsRows bs))) _ _ (c .before .before .before .walk .ensures .verdict-is) (c .before .v .given .1))
+    verdict-answered (then-stop _ (segmentsRows bs) (fileRows bs ++ (directoryRows (scanOf bs) ++ (metadataRows bs ++ attachmentsRows bs))) _ _ (c .before .before .before .walk .ensures .verdict-is) (c .before .v .given .1))
 
 returns-2 : tie.Need-returns-2
 unfolding verdict checks
 returns-2 c =
     let bs = now (c .before .before .before .before .before .before .before .args .s) in
-    verdict-answered (then-next _ _ (segmentsRows bs) (fileRows bs ++ (directoryRows bs ++ (metadataRows bs ++ attachmentsRows bs))) (c .before .before .before .before .walk .ensures .verdict-is) (c .before .before .enum-told .given .1) (c .judge-walked .ensures))
+    verdict-answered (then-next _ _ (segmentsRows bs) (fileRows bs ++ (directoryRows (scanOf bs) ++ (metadataRows bs ++ attachmentsRows bs))) (c .before .before .before .before .walk .ensures .verdict-is) (c .before .before .enum-told .given .1) (c .judge-walked .ensures))
 
 pub judge-spec : {M : Type 1} → statement M
 judge-spec =

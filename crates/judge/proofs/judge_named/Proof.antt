@@ -1,5 +1,6 @@
 -- `judge::judge_named` meets its contract.
 use denote.Ref.{now}
+use Rattle.format.specs.Scan.{scanOf}
 use Rattle.directory.proofs.Stages.{then-stop, then-next}
 use mathlib.Core.List.{_++_}
 use Rattle.format.specs.Directory.{directoryRows}
@@ -23,12 +24,12 @@ judge-annexes-requires c κs = search needs
 returns : tie.Need-returns
 returns c =
     let bs = now (c .before .before .before .before .before .args .s) in
-    then-stop _ (directoryRows bs) (metadataRows bs ++ attachmentsRows bs) _ _ (c .before .before .before .judge-directory .ensures) (c .before .v .given .1)
+    then-stop _ (directoryRows (scanOf bs)) (metadataRows bs ++ attachmentsRows bs) _ _ (c .before .before .before .judge-directory .ensures) (c .before .v .given .1)
 
 returns-2 : tie.Need-returns-2
 returns-2 c =
     let bs = now (c .before .before .before .before .before .args .s) in
-    then-next _ _ (directoryRows bs) (metadataRows bs ++ attachmentsRows bs) (c .before .before .before .judge-directory .ensures) (c .before .enum-told .given .1) (c .judge-annexes .ensures)
+    then-next _ _ (directoryRows (scanOf bs)) (metadataRows bs ++ attachmentsRows bs) (c .before .before .before .judge-directory .ensures) (c .before .enum-told .given .1) (c .judge-annexes .ensures)
 
 pub judge-named-spec : {M : Type 1} → statement M
 judge-named-spec =

@@ -1,6 +1,7 @@
 -- `judge::judge_walked` meets its contract.
 use mathlib.Core.Path.{sym, _∙_}
 use denote.Ref.{now}
+use Rattle.format.specs.Scan.{scanOf}
 use Rattle.directory.proofs.Stages.{then-stop, then-next}
 use mathlib.Core.List.{_++_}
 use Rattle.format.specs.File.{fileRows}
@@ -26,12 +27,12 @@ judge-named-requires c κs = (c .before .before .before .before .pre .0, (c .bef
 returns : tie.Need-returns
 returns c =
     let bs = now (c .before .before .before .before .before .args .s) in
-    then-stop _ (fileRows bs) (directoryRows bs ++ (metadataRows bs ++ attachmentsRows bs)) _ _ (c .before .before .before .judge-file .ensures) (c .before .v .given .1)
+    then-stop _ (fileRows bs) (directoryRows (scanOf bs) ++ (metadataRows bs ++ attachmentsRows bs)) _ _ (c .before .before .before .judge-file .ensures) (c .before .v .given .1)
 
 returns-2 : tie.Need-returns-2
 returns-2 c =
     let bs = now (c .before .before .before .before .before .args .s) in
-    then-next _ _ (fileRows bs) (directoryRows bs ++ (metadataRows bs ++ attachmentsRows bs)) (c .before .before .before .judge-file .ensures) (c .before .enum-told .given .1) (c .judge-named .ensures)
+    then-next _ _ (fileRows bs) (directoryRows (scanOf bs) ++ (metadataRows bs ++ attachmentsRows bs)) (c .before .before .before .judge-file .ensures) (c .before .enum-told .given .1) (c .judge-named .ensures)
 
 pub judge-walked-spec : {M : Type 1} → statement M
 judge-walked-spec =

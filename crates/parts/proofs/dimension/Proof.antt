@@ -1,6 +1,6 @@
 -- `parts::dimension` meets its contract.
 use native.Mathlib.Omega.{arith}
-use Rattle.format.specs.Records.{dimensionOf}
+use Rattle.format.specs.Records.{dimensionRecord}
 use Rattle.parts.proofs.Numbered.{dimension-there}
 use Rattle.format.proofs.Answering.{accepted, dimension-refused, dimension-found}
 use borrow.Author.Needs.{needs}
@@ -35,7 +35,7 @@ returns : tie.Need-returns
 returns c = dimension-refused (c .before .before .before .dimension-refusal .ensures) (c .before .v .given .1)
 
 returns-2 : tie.Need-returns-2
-unfolding dimensionOf
+unfolding dimensionRecord
 returns-2 c = dimension-found (c .before .before .before .before .dimension-refusal .ensures) (c .before .before .enum-told .given .1) (rw (← c .before .entry-place .ensures) (c .dimension-at .ensures))
 
 pub dimension-spec : {M : Type 1} → statement M

@@ -2,6 +2,7 @@
 use native.Mathlib.Omega.{arith}
 use denote.Ref.{now}
 use lib.Dec.{leb}
+use Rattle.format.specs.Scan.{scanOf}
 use Rattle.format.specs.Directory.{tileCount}
 use Rattle.format.specs.Rules.{checks, verdict, tileVerdict}
 use Rattle.format.proofs.Answering.{accepted}
@@ -28,21 +29,21 @@ unfolding verdict tileVerdict
 returns c =
     let a = c .before .before .before .before .before .before .args in
     let bs = now (a .s) in
-    no-such (checks bs) (leb (tileCount bs) (a .n)) _ (c .before .before .before .before .judge .ensures) (c .before .before .enum-told .given .1) (le-yes _ _ _ (c .before .tile-count .ensures) (omega (arith, c .if1 .taken)))
+    no-such (checks (scanOf bs)) (leb (tileCount bs) (a .n)) _ (c .before .before .before .before .judge .ensures) (c .before .before .enum-told .given .1) (le-yes _ _ _ (c .before .tile-count .ensures) (omega (arith, c .if1 .taken)))
 
 returns-2 : tie.Need-returns-2
 unfolding verdict tileVerdict
 returns-2 c =
     let a = c .before .before .before .before .before .args in
     let bs = now (a .s) in
-    refused-before (checks bs) (leb (tileCount bs) (a .n)) _ (c .before .before .before .judge .ensures) _ _ (c .before .v .given .1)
+    refused-before (checks (scanOf bs)) (leb (tileCount bs) (a .n)) _ (c .before .before .before .judge .ensures) _ _ (c .before .v .given .1)
 
 returns-3 : tie.Need-returns-3
 unfolding verdict tileVerdict
 returns-3 c =
     let a = c .before .before .before .before .before .before .args in
     let bs = now (a .s) in
-    is-there (checks bs) (leb (tileCount bs) (a .n)) _ (c .before .before .before .before .judge .ensures) (c .before .before .enum-told .given .1) (le-no _ _ _ (c .before .tile-count .ensures) (omega (arith, c .if1 .left)))
+    is-there (checks (scanOf bs)) (leb (tileCount bs) (a .n)) _ (c .before .before .before .before .judge .ensures) (c .before .before .enum-told .given .1) (le-no _ _ _ (c .before .tile-count .ensures) (omega (arith, c .if1 .left)))
 
 pub tile-refusal-spec : {M : Type 1} → statement M
 tile-refusal-spec =
