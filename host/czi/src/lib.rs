@@ -18,17 +18,23 @@ mod compose;
 mod ffi;
 mod mapping;
 mod pixel;
+mod plane;
+mod question;
 mod reader;
 mod records;
 mod refusal;
+mod tiles;
 
 pub use calls::Counted;
-pub use compose::{compose_plain, compose_quick, Masks, Question, Scene};
+pub use compose::{compose_plain, compose_quick};
 pub use mapping::{map, zeros, Mapping};
 pub use pixel::PixelType;
+pub use plane::{compose, NoPlane, Plane};
+pub use question::{Masks, Question, Scene};
 pub use reader::{
     attachment_data, common_attachment, common_xml, dimension, judge, list, summary, tile,
     tile_attachment, tile_metadata, tile_pixels,
 };
 pub use records::{Dimension, Edges, Extent, Mask, Summary, Tile};
 pub use refusal::{Reason, Refusal};
+pub use tiles::{dimensions, tiles, Tiles};
