@@ -14,6 +14,7 @@ mod options;
 mod planes;
 mod reader;
 mod report;
+mod types;
 mod zeros;
 
 use generate::{freedoms_of, sound, Random};
@@ -53,6 +54,7 @@ fn run(options: &Options) -> Report {
     }
     if !options.replay {
         limits::check_longest(&mut report);
+        types::check(&mut report);
     }
     report
 }

@@ -25,6 +25,9 @@ mod records;
 mod refusal;
 mod tiles;
 
+/// `CZI_VERSION` of the header that this crate was written for.
+pub const VERSION: u32 = 1;
+
 pub use calls::Counted;
 pub use compose::{compose_plain, compose_quick};
 pub use mapping::{map, zeros, Mapping};

@@ -75,3 +75,17 @@ fn all_tiles_are_those_asked_for_one_by_one() {
     assert_eq!(czi::tiles(&refused).map(|_| ()), Err(refusal));
     assert_eq!(czi::tiles(&sample("smallest.czi")).unwrap().count(), 0);
 }
+
+#[test]
+fn the_library_is_the_one_that_this_crate_is_for() {
+    assert_eq!(czi::calls::version(), czi::VERSION);
+}
+
+#[test]
+fn pixels_have_the_bytes_that_the_library_says() {
+    for number in (0..300).chain([u32::MAX]) {
+        let listed = czi::PixelType::of_number(number.into());
+        let bytes = listed.map_or(0, czi::PixelType::bytes);
+        assert_eq!(czi::calls::pixel_bytes(number) as usize, bytes, "{number}");
+    }
+}
