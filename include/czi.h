@@ -1,10 +1,11 @@
 /* Reads CZI microscope files (ZISRAW): judges one, hands out its parts and records, lists it, and composes its planes.
  *
  * A file is lent as its bytes, a pointer and a length. Any bytes and any number get an answer: nothing has to be
- * checked before a call, and no call changes a byte of the file. Only a target and a map are lent to be written.
+ * checked before a call, and no call changes a byte of the file. Lent to be written are a target, a map and the arrays
+ * of a record: a refused call changes none of them.
  *
- * Every function with a file but czi_list returns the number of the refusal, 0 where there is none. What stands behind
- * an out-pointer is part of the answer: it is written always, and is 0 where there is nothing to say.
+ * Every function with a file but czi_list returns the number of the refusal, 0 where there is none. A single number
+ * behind an out-pointer is part of the answer: it is written always, and is 0 where there is nothing to say.
  *   place   where the refusal is, as a byte offset in the file; 0 where there is none.
  * Each question judges the whole file first: a file that czi_judge refuses is refused so by all of them (but that
  * czi_list looks at the length before).
@@ -66,7 +67,7 @@
  * directory entry by entry, each with its sub-block and its chunks; the metadata segment; the attachment directory
  * entry by entry; then 20 to 24. czi_refusal_words has a line for each.
  *
- * Each function is proved to give exactly what its contract says (crates/czi/src/lib.rt; what the contracts cite is
+ * Each function is proved to give exactly what its contract says (crates/czi/src; what the contracts cite is
  * in crates/czi/specs). host/tests/interface holds the declarations here against those there; what the words here say
  * of an answer is tested, not proved.
  *
@@ -188,9 +189,9 @@ uint32_t czi_summary(const uint8_t *file, size_t file_len, uint64_t *place,
 
 /* ---- The listing: lines of plain ASCII text, each ended by a newline.
  *
- * text is to CZI_TEXT bytes. The text's length is returned, and all bytes of the array behind it are 0. No text fills
- * the array, so a zero byte always follows: it is a string of C too. A refusal is in the text, 30 for a file of over
- * 65,536 bytes too. */
+ * text is to CZI_TEXT bytes, which are the answer, all of them written always: the text, whose length is returned, and
+ * zeros behind it. No text fills the array, so a zero byte always follows: it is a string of C too. A refusal is in the
+ * text, 30 for a file of over 65,536 bytes too. */
 enum { CZI_TEXT = 192 };
 
 uint64_t czi_list(const uint8_t *file, size_t file_len, uint8_t *text);

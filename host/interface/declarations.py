@@ -41,7 +41,7 @@ def header_numbers(text):
     return {name: int(value) for name, value in named}
 
 
-# ---- crates/czi/src/lib.rt
+# ---- crates/czi/src
 
 def source_functions(text):
     """The exported functions of the proved source. A slice is a pointer and a length."""

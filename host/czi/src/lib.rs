@@ -7,6 +7,19 @@
 //! refuses, all of them refuse alike (but that [`list`] looks at the length
 //! before). A [`Refusal`] has a number of paper 01's table and a place.
 //!
+//! ```
+//! # fn main() -> Result<(), Box<dyn std::error::Error>> {
+//! let file = std::fs::read("../samples/mosaic.czi")?;
+//! for tile in czi::tiles(&file)? {
+//!     println!("{:?} from {}, {} on", tile.pixel_type, tile.x.start, tile.y.start);
+//! }
+//! let edges = czi::summary(&file)?.edges.ok_or("no tile has a place in a plane")?;
+//! let question = czi::Question::default().over(edges).masks(czi::Masks::On);
+//! assert_eq!(czi::compose(&file, &question)?.covered, 1138);
+//! # Ok(())
+//! # }
+//! ```
+//!
 //! [`calls`] has the functions of `include/czi.h` one for one, for those who
 //! want each number of an answer, refused ones too.
 
