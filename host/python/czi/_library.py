@@ -55,11 +55,12 @@ def _path():
 def _load():
     path = _path()
     library = ctypes.CDLL(path)
+    version = library.czi_version() if hasattr(library, "czi_version") else "without a number"
+    if version != VERSION:
+        raise ImportError(f"{path} has interface {version}, and this package is for {VERSION}")
     for name, (answer, taken) in SIGNATURES.items():
         function = getattr(library, name)
         function.restype, function.argtypes = answer, taken
-    if (version := library.czi_version()) != VERSION:
-        raise ImportError(f"{path} has interface {version}, and this package is for {VERSION}")
     return library
 
 
