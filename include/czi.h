@@ -130,7 +130,8 @@ uint32_t czi_common_xml(const uint8_t *file, size_t file_len,
 uint32_t czi_common_attachment(const uint8_t *file, size_t file_len,
                                uint64_t *place, uint64_t *start, uint64_t *length);
 
-/* ---- The tile record, as 22 numbers and 3 signed ones. All are 0 where refused. */
+/* ---- The tile record, as 22 numbers and 3 signed ones, in two arrays that are lent. A refused call leaves both as they
+ * were. */
 
 /* What stands where in numbers. Starts are offsets in the file. */
 enum {

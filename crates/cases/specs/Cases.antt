@@ -19,7 +19,7 @@ use Rattle.format.specs.declared.Verdict.{Verdict}
 use Rattle.format.specs.declared.Verdict.the-variants.{Accepted, Refused}
 use Rattle.format.specs.Entry.{isPyramid}
 use Rattle.format.specs.Records.{maskOf}
-use Rattle.format.specs.Masks.{maskFrom}
+use Rattle.format.specs.Masks.{maskFrom, maskShape}
 use lib.IntN.{ℤ, pos, negsuc}
 use Rattle.plane.specs.Sums.{sum, tab}
 use Rattle.plane.specs.Paint.{bitIn, bit, pack, paint, mark, clear}
@@ -28,8 +28,9 @@ use Rattle.plane.specs.Turns as Turns
 use Rattle.selection.specs.Select.{askedStart, tileStart, free, startsThere, selects}
 use Rattle.tiles.specs.FileTile.{rankOf, rectangle, covers, meets, tileOf, fileTile, tilesBelow}
 use Rattle.question.specs.Question.{windowBad, pixelBad, lentBad, askRows, typeBad, agreeRows}
-use Rattle.question.specs.Call.{Asked, callVerdict, selected, targetAfter}
-use Rattle.question.specs.declared.Masks.the-variants.{NotChosen}
+use Rattle.question.specs.Call.{Asked, callVerdict, selected, targetAfter, mapAfter}
+use Rattle.question.specs.declared.Masks.{Masks}
+use Rattle.question.specs.declared.Masks.the-variants.{NotChosen, On, Off}
 
 -- ---- the files of the cases
 
@@ -91,6 +92,18 @@ fileWide =
     (segment nameDirectory 224 (little 4 1 ++ replicate 124 0 ++ wide8) ++
     blockOf wide8 (10 ∷ 11 ∷ 12 ∷ 13 ∷ 14 ∷ 15 ∷ 16 ∷ 17 ∷ []))
 
+-- one tile at (0, 0), width 5, of the pixels 10 to 14, whose sub-block at 384 is marked as a container and has that mask chunk
+unfoldable pub masked5 : List ℕ
+masked5 = entryOf 384 2 (dimensionOf 88 0 5 ++ dimensionOf 89 0 1)
+
+unfoldable pub fileMasked : List ℕ → List ℕ
+fileMasked mask =
+    fileSegment ++
+    (segment nameDirectory 224 (little 4 1 ++ replicate 124 0 ++ masked5) ++
+    segment nameSubBlock 352
+    (take 256 (little 4 39 ++ little 4 (length mask) ++ little 8 5 ++ masked5 ++ replicate 256 0) ++
+    (containerMarker ++ ((10 ∷ 11 ∷ 12 ∷ 13 ∷ 14 ∷ []) ++ mask))))
+
 -- two tiles of one pixel at (0, 0), 7 and then 9, the sub-blocks at 512 and 832: of these dimensions besides X and Y
 unfoldable pub fileTwo : ℕ → List ℕ → ℕ → List ℕ → List ℕ
 fileTwo n one m two =
@@ -103,22 +116,22 @@ fileTwo n one m two =
 
 -- ---- questions, and what the rules answer
 
--- a question with no start, background 0, masks not chosen, for a Gray8 window of one row
-unfoldable pub rowAt : List ℕ → ℤ → ℕ → Asked
-rowAt file left width = record {
+-- a question with no start, background 7, for a Gray8 window of one row, by that masks choice
+unfoldable pub rowAt : Masks → List ℕ → ℤ → ℕ → Asked
+rowAt masks file left width = record {
   file = file;
   starts = [];
   anyScene = false;
-  frame = record { «pixel_type» = 0; left = left; top = pos 0; width = width; height = 1; masks = NotChosen };
-  background = 0 ∷ [];
+  frame = record { «pixel_type» = 0; left = left; top = pos 0; width = width; height = 1; masks = masks };
+  background = 7 ∷ [];
 }
 
 pub data Question : Type 0 where
   judge : List ℕ → Question
   fixed : ℕ → Question
   valid : List ℕ → ℕ → ℕ → Question
-  -- the bytes of a window of one row in the file, by either composer
-  plane : Kind → List ℕ → ℤ → ℕ → Question
+  -- target and map of a window of one row in the file, by either composer
+  plane : Kind → Masks → List ℕ → ℤ → ℕ → Question
   -- the verdict on that question, over a target and a map with room
   ask : List ℕ → ℤ → ℕ → Question
 
@@ -126,14 +139,15 @@ pub data Answer : Type 0 where
   verdict-is : Verdict → Answer
   number : ℕ → Answer
   flag : Bool → Answer
-  bytes : List ℕ → Answer
+  painted : List ℕ → List ℕ → Answer
 
 abbrev pub answer : Question → Answer
 answer (judge bs) = verdict-is (verdict bs)
 answer (fixed n) = number (fixedPart n)
 answer (valid mask x y) = flag (maskValid mask 0 x y)
-answer (plane k file left width) = bytes (targetAfter k (rowAt file left width) (replicate width 0) (0 ∷ []))
-answer (ask file left width) = verdict-is (callVerdict (rowAt file left width) width 1)
+answer (plane k masks file left width) =
+    painted (targetAfter k (rowAt masks file left width) (replicate width 0) (0 ∷ [])) (mapAfter k (rowAt masks file left width) (replicate width 0) (0 ∷ []))
+answer (ask file left width) = verdict-is (callVerdict (rowAt NotChosen file left width) width 1)
 
 pub record Case : Type 0 where
   pub question : Question
@@ -159,19 +173,26 @@ cases =
     -- P5 11: F 268
     case (fixed 11) (number 268) ∷
     -- P6 tile left −4, width 8, window left −2, width 4: tile columns 2 to 5
-    case (plane plain fileWide (negsuc 1) 4) (bytes (12 ∷ 13 ∷ 14 ∷ 15 ∷ [])) ∷
-    case (plane quick fileWide (negsuc 1) 4) (bytes (12 ∷ 13 ∷ 14 ∷ 15 ∷ [])) ∷
+    case (plane plain NotChosen fileWide (negsuc 1) 4) (painted (12 ∷ 13 ∷ 14 ∷ 15 ∷ []) (0xf0 ∷ [])) ∷
+    case (plane quick NotChosen fileWide (negsuc 1) 4) (painted (12 ∷ 13 ∷ 14 ∷ 15 ∷ []) (0xf0 ∷ [])) ∷
     -- P7 mask byte 80 hex, width 10, stride 2: x = 0 valid, 1 not
     case (valid (mask1 10 2 (0x80 ∷ 0 ∷ [])) 0 0) (flag true) ∷
     case (valid (mask1 10 2 (0x80 ∷ 0 ∷ [])) 1 0) (flag false) ∷
-    -- P8 mask width 3 on a tile 5 wide: x = 3 invalid, though its bit is one
+    -- the same mask on a tile 5 wide, masks on: its first pixel alone
+    case (plane plain On (fileMasked (mask1 10 2 (0x80 ∷ 0 ∷ []))) (pos 0) 5) (painted (10 ∷ 7 ∷ 7 ∷ 7 ∷ 7 ∷ []) (0x80 ∷ [])) ∷
+    case (plane quick On (fileMasked (mask1 10 2 (0x80 ∷ 0 ∷ []))) (pos 0) 5) (painted (10 ∷ 7 ∷ 7 ∷ 7 ∷ 7 ∷ []) (0x80 ∷ [])) ∷
+    -- P8 mask width 3 on a tile 5 wide: x = 3 invalid, though its bit is one; masks on, pixel 3 is background and its map bit 0
     case (valid (mask1 3 1 (0xff ∷ [])) 3 0) (flag false) ∷
+    case (plane plain On (fileMasked (mask1 3 1 (0xff ∷ []))) (pos 0) 5) (painted (10 ∷ 11 ∷ 12 ∷ 7 ∷ 7 ∷ []) (0xe0 ∷ [])) ∷
+    case (plane quick On (fileMasked (mask1 3 1 (0xff ∷ []))) (pos 0) 5) (painted (10 ∷ 11 ∷ 12 ∷ 7 ∷ 7 ∷ []) (0xe0 ∷ [])) ∷
+    -- the same tile, masks off: all its pixels
+    case (plane quick Off (fileMasked (mask1 3 1 (0xff ∷ []))) (pos 0) 5) (painted (10 ∷ 11 ∷ 12 ∷ 13 ∷ 14 ∷ []) (0xf8 ∷ [])) ∷
     -- P9 M −1 lies over no M, though the tile without M is the later entry
-    case (plane plain (fileTwo 3 (dimensionOf 77 4294967295 1) 2 []) (pos 0) 1) (bytes (7 ∷ [])) ∷
-    case (plane quick (fileTwo 3 (dimensionOf 77 4294967295 1) 2 []) (pos 0) 1) (bytes (7 ∷ [])) ∷
+    case (plane plain NotChosen (fileTwo 3 (dimensionOf 77 4294967295 1) 2 []) (pos 0) 1) (painted (7 ∷ []) (0x80 ∷ [])) ∷
+    case (plane quick NotChosen (fileTwo 3 (dimensionOf 77 4294967295 1) 2 []) (pos 0) 1) (painted (7 ∷ []) (0x80 ∷ [])) ∷
     -- P10 two tiles with M 4: the later entry
-    case (plane plain (fileTwo 3 (dimensionOf 77 4 1) 3 (dimensionOf 77 4 1)) (pos 0) 1) (bytes (9 ∷ [])) ∷
-    case (plane quick (fileTwo 3 (dimensionOf 77 4 1) 3 (dimensionOf 77 4 1)) (pos 0) 1) (bytes (9 ∷ [])) ∷
+    case (plane plain NotChosen (fileTwo 3 (dimensionOf 77 4 1) 3 (dimensionOf 77 4 1)) (pos 0) 1) (painted (9 ∷ []) (0x80 ∷ [])) ∷
+    case (plane quick NotChosen (fileTwo 3 (dimensionOf 77 4 1) 3 (dimensionOf 77 4 1)) (pos 0) 1) (painted (9 ∷ []) (0x80 ∷ [])) ∷
     -- P11 window left 2,147,483,647, width 1: refused 20
     case (ask file288 (pos 2147483647) 1) (verdict-is (Refused 20 0)) ∷
     -- P12 attachment of 19 bytes marked as container: 17
@@ -179,5 +200,5 @@ cases =
     []
 
 pub all-right : AllRight cases
-unfolding little segment fileSegment file288 dimension1 entry1 file19 mask1 dimensionOf entryOf blockOf wide8 fileWide fileTwo rowAt sum tab bitIn bit pack paint mark clear turn run Turns.start below insert bottomFirst askedStart tileStart free startsThere selects rankOf rectangle covers meets tileOf fileTile tilesBelow windowBad pixelBad lentBad askRows typeBad agreeRows callVerdict selected targetAfter isPyramid maskOf maskFrom anyOf anyBelow allBelow leastBelow u32At u64At biased sameAt sameRange nameFile nameDirectory nameSubBlock nameMetadata nameAttachment nameAttachmentDirectory nameDeleted markTile containerMarker maskGuid rowsBelow allocatedSize usedSize room nextSegment lengthBad nameBad allocatedBad usedBad endBad sizesBad roleBad segmentRows walkRows walkedFrom walked segmentsRows member walkedAs major filePart directoryPosition metadataPosition updatePending attachmentDirectoryPosition namesNone namesNoneBut0 fileRows pixelType filePosition entryPart compression dimensionCount letter start size storedField stored nextEntry headBad letterBad tooFar isPlane sizeBad dimensionBad hasLetter repeats closesPlane dimensionsBad letterIndex letterPlace pixelBytes metadataSize attachmentSize dataSize fixedPart copyBad subBlockBad pixelsSize contentsBad metadataPlace pixelsPlace attachmentPlace isContainer chunkSize nextChunk chunkBad isMask maskBad maskRefused maskWidth maskHeight maskStride representation chunkRows chunksRows maskByte maskValid entryCount roomEnd tileCount entryPlace directoryBad headRows tileRows subBlockRows attachmentRows entryRows directoryRows metadataRows attachmentsRows checks verdict
-all-right = (refl, (refl, (refl, (refl, (refl, (refl, (refl, (refl, (refl, (refl, (refl, (refl, (refl, (refl, (refl, (refl, tt))))))))))))))))
+unfolding little segment fileSegment file288 dimension1 entry1 file19 mask1 dimensionOf entryOf blockOf wide8 fileWide masked5 fileMasked fileTwo rowAt sum tab bitIn bit pack paint mark clear turn run Turns.start below insert bottomFirst askedStart tileStart free startsThere selects rankOf rectangle covers meets tileOf fileTile tilesBelow windowBad pixelBad lentBad askRows typeBad agreeRows callVerdict selected targetAfter mapAfter isPyramid maskOf maskFrom maskShape anyOf anyBelow allBelow leastBelow u32At u64At biased sameAt sameRange nameFile nameDirectory nameSubBlock nameMetadata nameAttachment nameAttachmentDirectory nameDeleted markTile containerMarker maskGuid rowsBelow allocatedSize usedSize room nextSegment lengthBad nameBad allocatedBad usedBad endBad sizesBad roleBad segmentRows walkRows walkedFrom walked segmentsRows member walkedAs major filePart directoryPosition metadataPosition updatePending attachmentDirectoryPosition namesNone namesNoneBut0 fileRows pixelType filePosition entryPart compression dimensionCount letter start size storedField stored nextEntry headBad letterBad tooFar isPlane sizeBad dimensionBad hasLetter repeats closesPlane dimensionsBad letterIndex letterPlace pixelBytes metadataSize attachmentSize dataSize fixedPart copyBad subBlockBad pixelsSize contentsBad metadataPlace pixelsPlace attachmentPlace isContainer chunkSize nextChunk chunkBad isMask maskBad maskRefused maskWidth maskHeight maskStride representation chunkRows chunksRows maskByte maskValid entryCount roomEnd tileCount entryPlace directoryBad headRows tileRows subBlockRows attachmentRows entryRows directoryRows metadataRows attachmentsRows checks verdict
+all-right = (refl, (refl, (refl, (refl, (refl, (refl, (refl, (refl, (refl, (refl, (refl, (refl, (refl, (refl, (refl, (refl, (refl, (refl, (refl, (refl, (refl, tt)))))))))))))))))))))

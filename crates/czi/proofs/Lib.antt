@@ -1,3 +1,3 @@
 -- Laws of the answers to C.
-pub mod Numbers
-pub mod Told
+pub mod Low
+pub mod Out

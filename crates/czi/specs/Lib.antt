@@ -1,4 +1,4 @@
 -- What the functions for C and Rust answer.
-pub mod Answers
-pub mod Given
+pub mod Numbers
+pub mod Out
 pub mod Plane

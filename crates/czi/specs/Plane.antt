@@ -26,7 +26,7 @@ planeAsked file starts anyScene type background left top width height masks =
     asked file starts (not (eqb anyScene 0)) (frameOf type left top width height masks) background
 
 -- a plane by the composer k, from the lent target t and map m to t′ and m′
-pub record SaidPlane (k : Kind) (a : Asked) (t m t′ m′ : List ℕ) (number place covered stored : ℕ) : Type 0 where
+pub record PlaneOut (k : Kind) (a : Asked) (t m t′ m′ : List ℕ) (number place covered stored : ℕ) : Type 0 where
   pub number-is : number ≡ numberIn (answer k a t m)
   pub place-is : place ≡ placeIn (answer k a t m)
   pub covered-is : covered ≡ coveredIn (answer k a t m)

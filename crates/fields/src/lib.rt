@@ -4,7 +4,9 @@ ghost use Prim.Native.Nat.{_+_, _*_, _<_, _≤_, _^_};
 ghost use lib.ListN.{getD, length};
 ghost use lib.Dec.{eqb};
 ghost use lib.Ieee.{ofBits, binary32};
-ghost use Rattle.format.specs.Bytes.{u32At, u64At, sameAt, sameRange, partOf, signed32, biased, shifted};
+ghost use Rattle.format.specs.Bytes.{u32At, u64At, sameAt, sameRange, signed32, biased, shifted};
+ghost use Rattle.format.specs.Records.{span};
+ghost use Rattle.format.specs.Views.{View};
 
 fn wide(x: u8) -> u64
     ensures { λ r. ⌜ (r ≡ x) × (r < 256) ⌝ }
@@ -78,10 +80,10 @@ pub fn same_name(s: &[u8], p: u64, name: &[u8]) -> bool
     true
 }
 
-// The n bytes from p on, as a part of the lent slice.
+// The n bytes from p on: the very part of the lent slice.
 pub fn part(s: &[u8], p: u64, n: u64) -> &[u8]
     requires { ⌜ p + n ≤ length (now s) ⌝ }
-    ensures { λ r. ⌜ now r ≡ partOf (now (s .entry)) p n ⌝ }
+    ensures { λ r. ⌜ View (s .entry) (span p n) r ⌝ }
 {
     let from = p as usize;
     let to = (p + n) as usize;

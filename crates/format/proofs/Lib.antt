@@ -1,5 +1,6 @@
 -- Laws of the rules.
 pub mod Flags
+pub mod Answering
 pub mod Below
 pub mod Firsts
 pub mod Members

@@ -11,4 +11,6 @@ pub mod Directory
 pub mod Attachments
 pub mod Rules
 pub mod Records
+pub mod Answers
+pub mod Views
 pub mod WellFormed

@@ -87,13 +87,10 @@ tileAt n ds e bs q =
 unfoldable pub tileOf : List ℕ → ℕ → Tile
 tileOf bs n = tileAt n bs (entryPlace bs n) bs (filePosition bs (entryPlace bs n))
 
--- the answer of number n, by the verdict
+-- the answer, by the verdict
 abbrev pub tileIf : Verdict → Tile → TileAnswer
 tileIf Is.Accepted t = TA.Found t
 tileIf (Is.Refused n p) t = TA.Refused n p
-
-unfoldable pub tileAnswer : List ℕ → ℕ → TileAnswer
-tileAnswer bs n = tileIf (tileVerdict bs n) (tileOf bs n)
 
 -- ---- the dimension record
 
@@ -121,8 +118,9 @@ abbrev pub dimensionIf : Verdict → Dimension → DimensionAnswer
 dimensionIf Is.Accepted d = DA.Found d
 dimensionIf (Is.Refused n p) d = DA.Refused n p
 
-unfoldable pub dimensionAnswer : List ℕ → ℕ → ℕ → DimensionAnswer
-dimensionAnswer bs n k = dimensionIf (dimensionVerdict bs n k) (dimensionAt bs (dimensionPlace (entryPlace bs n) k))
+-- of dimension k of entry n
+unfoldable pub dimensionOf : List ℕ → ℕ → ℕ → Dimension
+dimensionOf bs n k = dimensionAt bs (dimensionPlace (entryPlace bs n) k)
 
 -- ---- the stretches of the views: the empty one where refused
 

@@ -89,3 +89,9 @@ pub enum DimensionAnswer {
     Found(Dimension),
     Refused { number: u64, place: u64 },
 }
+
+// What is answered to a question for a part of the file.
+pub enum SpanAnswer {
+    Found(Span),
+    Refused { number: u64, place: u64 },
+}

@@ -9,6 +9,7 @@ ghost use Rattle.format.specs.File.{namesNone, namesNoneBut0, fileRows};
 ghost use Rattle.format.specs.Directory.{directoryRows, tileCount};
 ghost use Rattle.format.specs.Attachments.{metadataRows, attachmentsRows, attachmentCount};
 ghost use Rattle.format.specs.Rules.{verdict};
+ghost use Rattle.format.specs.Answers.{VerdictAnswered};
 ghost use Rattle.format.specs.declared.Verdict.the-variants.{Accepted};
 ghost use Rattle.segments.specs.Walk.{Filled};
 ghost use Rattle.judge.specs.Located.{Located};
@@ -136,7 +137,7 @@ fn judge_walked(s: &[u8], table: &[u64; 8192], count: usize) -> Verdict
 
 // The verdict on any bytes.
 pub fn judge(s: &[u8]) -> Verdict
-    ensures { λ r. ⌜ r ≡ verdict (now (s .entry)) ⌝ }
+    ensures { λ r. ⌜ VerdictAnswered (verdict (now (s .entry))) r ⌝ }
 {
     let mut table = [0u64; 8192];
     let w = segments::walk(s, &mut table);

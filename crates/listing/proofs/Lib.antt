@@ -1,3 +1,4 @@
--- Laws of the box and of the listing.
+-- Laws of the box, of the summary and of the listing.
 pub mod Boxes
 pub mod Texts
+pub mod Summaries

@@ -1,23 +1,24 @@
 -- The summary of a file: its length, how many segments, tiles and attachments it has, and the box of its tiles.
 -- Plane coordinates are kept plus 2 ^ 31, so that they are compared as numbers that are not negative.
 use Prim.Native.Nat.{ℕ, zero, suc, _+_, min, max}
+use mathlib.Core.Path.{_≡_}
 use mathlib.Core.List.{List}
 use mathlib.Core.Bool.{Bool, cond, not}
 use lib.ListN.{length}
 use lib.IntN.{ℤ}
 use Rattle.format.specs.Bytes.{anyBelow, signed32, biased}
+use Rattle.format.specs.Checks.{numberOf, placeOf, ifAccepted}
 use Rattle.format.specs.Segments.{walked}
 use Rattle.format.specs.Entry.{start, size, letterPlace, isPyramid}
 use Rattle.format.specs.Directory.{tileCount, entryPlace}
 use Rattle.format.specs.Attachments.{attachmentCount}
-use Rattle.format.specs.Rules.{verdict}
 use Rattle.format.specs.declared.Verdict.{Verdict}
 use Rattle.format.specs.declared.Verdict.the-variants as Is
 use Rattle.listing.specs.declared.Bounds.{Bounds}
 use Rattle.listing.specs.declared.Bounds.the-variants.{Nothing, Box}
 use Rattle.listing.specs.declared.Summary.{Summary}
 use Rattle.listing.specs.declared.SummaryAnswer.{SummaryAnswer}
-use Rattle.listing.specs.declared.SummaryAnswer.the-variants as SA
+use Rattle.listing.specs.declared.SummaryAnswer.the-variants as SummaryIs
 
 -- ---- the tiles that aren't pyramid tiles
 
@@ -77,10 +78,26 @@ summaryOf bs =
       bounds = boundsOf (anyBelow (tileCount bs) (plain bs)) (left bs) (top bs) (right bs) (bottom bs);
     }
 
--- the answer, by the verdict
-abbrev pub summaryIf : Verdict → Summary → SummaryAnswer
-summaryIf Is.Accepted s = SA.Found s
-summaryIf (Is.Refused n p) s = SA.Refused n p
+-- ---- the answer, by the verdict: its values are all zero where it is refused
 
-unfoldable pub summaryAnswer : List ℕ → SummaryAnswer
-summaryAnswer bs = summaryIf (verdict bs) (summaryOf bs)
+abbrev pub summaryIf : Verdict → Summary → SummaryAnswer
+summaryIf Is.Accepted s = SummaryIs.Found s
+summaryIf (Is.Refused n p) s = SummaryIs.Refused n p
+
+abbrev pub noSummary : Summary
+noSummary = record { bytes = 0; segments = 0; tiles = 0; attachments = 0; bounds = Nothing }
+
+abbrev pub summaryVerdict : SummaryAnswer → Verdict
+summaryVerdict (SummaryIs.Found s) = Is.Accepted
+summaryVerdict (SummaryIs.Refused n p) = Is.Refused n p
+
+abbrev pub summaryIn : SummaryAnswer → Summary
+summaryIn (SummaryIs.Found s) = s
+summaryIn (SummaryIs.Refused n p) = noSummary
+
+-- by the verdict v the summary s is answered as r
+pub record SummaryAnswered (v : Verdict) (s : Summary) (r : SummaryAnswer) : Type 0 where
+  pub answer-is : r ≡ summaryIf v s
+  pub number-is : numberOf (summaryVerdict r) ≡ numberOf v
+  pub place-is : placeOf (summaryVerdict r) ≡ placeOf v
+  pub summary-is : summaryIn r ≡ ifAccepted v s noSummary

@@ -14,7 +14,7 @@ ghost use Rattle.format.specs.Attachments.{attachmentCount};
 ghost use Rattle.format.specs.Rules.{verdict};
 ghost use Rattle.format.specs.declared.Verdict.the-variants.{Accepted};
 ghost use Rattle.text.specs.Text.{decimal, signedDecimal, textOf, Clean, Appended};
-ghost use Rattle.listing.specs.Summary.{nearEdge, farEdge, summaryAnswer};
+ghost use Rattle.listing.specs.Summary.{nearEdge, farEdge, summaryOf, SummaryAnswered};
 ghost use Rattle.listing.specs.Listing.{nameBox, line, refusalText, listingOf};
 ghost use Rattle.listing.specs.Figures.{cornersBelow, withTile, Held, figuresOf, boundsBy, boxBy, summaryBy, textBy, Says};
 
@@ -219,7 +219,7 @@ fn summary_of(f: Figures) -> Summary
 
 // The summary of a file of any size, or its refusal.
 pub fn summarize(s: &[u8]) -> SummaryAnswer
-    ensures { λ r. ⌜ r ≡ summaryAnswer (now (s .entry)) ⌝ }
+    ensures { λ r. ⌜ SummaryAnswered (verdict (now (s .entry))) (summaryOf (now (s .entry))) r ⌝ }
 {
     let v = judge::judge(s);
     match v {

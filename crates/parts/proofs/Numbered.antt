@@ -17,26 +17,28 @@ use Rattle.format.specs.Rules.{checks, verdict, tileVerdict, attachmentVerdict}
 use Rattle.format.specs.Records.{dimensionVerdict}
 use Rattle.format.specs.declared.Verdict.{Verdict}
 use Rattle.format.specs.declared.Verdict.the-variants.{Accepted, Refused}
+use Rattle.format.specs.Answers.{VerdictAnswered}
 use Rattle.format.proofs.Firsts.{first-both, first-passed}
+use Rattle.format.proofs.Answering.{verdict-answered, accepted}
 use Rattle.directory.proofs.Stages.{then-stop, then-next}
-use Rattle.subblocks.specs.Judged.{Judged}
+use Rattle.subblocks.specs.Judged.{Filled, Judged}
 use Rattle.subblocks.proofs.PartLaws.{listed-in}
 use Rattle.judge.proofs.AcceptedFile.{tiled, Attached, attached}
 
--- ---- a row 24 behind other rows, whose answer is v
+-- ---- a row 24 behind other rows, of which v was answered
 
 abbrev pub Asked : List Check → Bool → List Check
 Asked rows none = rows ++ (row 24 0 none ∷ [])
 
-module _ (rows : List Check) (none : Bool) (v : Verdict) (e : v ≡ first rows) where
-  pub refused-before : (m p : ℕ) → v ≡ Refused m p → Refused m p ≡ first (Asked rows none)
-  refused-before m p h = then-stop v rows (row 24 0 none ∷ []) m p e h
+module _ (rows : List Check) (none : Bool) (v : Verdict) (a : VerdictAnswered (first rows) v) where
+  pub refused-before : (m p : ℕ) → v ≡ Refused m p → VerdictAnswered (first (Asked rows none)) (Refused m p)
+  refused-before m p h = verdict-answered (then-stop v rows (row 24 0 none ∷ []) m p (a .answer-is) h)
 
-  pub no-such : v ≡ Accepted → none ≡ true → Refused 24 0 ≡ first (Asked rows none)
-  no-such h t = then-next v (Refused 24 0) rows (row 24 0 none ∷ []) e h (rw t)
+  pub no-such : v ≡ Accepted → none ≡ true → VerdictAnswered (first (Asked rows none)) (Refused 24 0)
+  no-such h t = verdict-answered (then-next v (Refused 24 0) rows (row 24 0 none ∷ []) (a .answer-is) h (rw t))
 
-  pub is-there : v ≡ Accepted → none ≡ false → Accepted ≡ first (Asked rows none)
-  is-there h t = then-next v Accepted rows (row 24 0 none ∷ []) e h (rw t)
+  pub is-there : v ≡ Accepted → none ≡ false → VerdictAnswered (first (Asked rows none)) Accepted
+  is-there h t = verdict-answered (then-next v Accepted rows (row 24 0 none ∷ []) (a .answer-is) h (rw t))
 
 asked-both : (rows : List Check) (none : Bool) → first (Asked rows none) ≡ Accepted → (first rows ≡ Accepted) × (none ≡ false)
 asked-both rows none h =
@@ -62,8 +64,12 @@ tile-there bs n h =
     record { accepted = both .0; small = file .small; below = below; entry = listed-in bs (entryPlace bs n) (judged .filled .agreed .placed .listed); judged = judged }
 
 -- the sub-block at q of the entry at e of tile n
-pub judged-at : (bs : List ℕ) (n e q : ℕ) → tileVerdict bs n ≡ Accepted → e ≡ entryPlace bs n → q ≡ filePosition bs e → Judged bs e bs q
-judged-at bs n e q h i j = rw (j, i) (tile-there bs n h .judged)
+module _ (bs : List ℕ) (n e q : ℕ) {v : Verdict} (a : VerdictAnswered (tileVerdict bs n) v) (h : v ≡ Accepted) (i : e ≡ entryPlace bs n) (j : q ≡ filePosition bs e) where
+  pub judged-at : Judged bs e bs q
+  judged-at = rw (j, i) (tile-there bs n (accepted a h) .judged)
+
+  pub filled-at : Filled bs e bs q
+  filled-at = judged-at .filled
 
 -- the entry at e of tile k, before tile n
 module _ (bs : List ℕ) (n k e : ℕ) (h : tileVerdict bs n ≡ Accepted) (l : k < n) (p : e ≡ entryPlace bs k) where

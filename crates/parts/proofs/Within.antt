@@ -5,6 +5,7 @@ use mathlib.Core.List.{List}
 use mathlib.Core.Bool.{Bool, true, false, cond}
 use native.Mathlib.Omega.{arith}
 use lib.ListN.{length}
+use denote.Ref.{RefT}
 use lib.Dec.{eqb}
 use borrow.Author.Tests.{eqb-false}
 use Rattle.format.specs.File.{metadataPosition}
@@ -12,9 +13,12 @@ use Rattle.format.specs.Entry.{filePosition}
 use Rattle.format.specs.Directory.{entryPlace}
 use Rattle.format.specs.Rules.{verdict, tileVerdict, attachmentVerdict}
 use Rattle.format.specs.Records.{span, spanIf, metadataSpan, pixelsSpan, attachmentSpan, tilePixels, tileMetadata, tileAttachment, attachmentDataSpan, attachmentData, xmlSpan, xmlAttachmentSpan, commonXml, commonAttachment}
+use Rattle.format.specs.Answers.{SpanAnswered, spanIn}
+use Rattle.format.specs.Views.{View}
 use Rattle.format.specs.declared.Verdict.{Verdict}
 use Rattle.format.specs.declared.Verdict.the-variants.{Accepted, Refused}
 use Rattle.format.specs.declared.Span.{Span}
+use Rattle.format.specs.declared.SpanAnswer.{SpanAnswer}
 use Rattle.subblocks.proofs.PartLaws.{Laid, filled-in}
 use Rattle.judge.proofs.AcceptedFile.{described}
 use Rattle.parts.proofs.Numbered.{tile-there, attachment-there}
@@ -26,9 +30,13 @@ pub span-within : (bs : List ℕ) (v : Verdict) (s : Span) → (v ≡ Accepted �
 span-within bs Accepted s h = h refl
 span-within bs (Refused m p) s h = omega arith
 
--- an answer r that is such a stretch
-pub same-within : (bs : List ℕ) (r s : Span) → r ≡ s → Within bs s → Within bs r
-same-within bs r s e h = rw e h
+-- the stretch r that an answer a for the stretch s has, and its view
+module _ {v : Verdict} {s r : Span} {a : SpanAnswer} (h : SpanAnswered v s a) (e : r ≡ spanIn a) where
+  pub answered-within : (bs : List ℕ) → Within bs s → Within bs r
+  answered-within bs w = rw (e, h .span-is) w
+
+  pub answered-view : {whole part : RefT (List ℕ)} → View whole r part → View whole s part
+  answered-view w = rw (← h .span-is, ← e) w
 
 module _ (bs : List ℕ) (n : ℕ) where
   laid : tileVerdict bs n ≡ Accepted → Laid bs (entryPlace bs n) bs (filePosition bs (entryPlace bs n))

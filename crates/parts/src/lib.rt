@@ -1,23 +1,48 @@
 // What a user is handed out of a file of any bytes: records and parts of it by number. Each question judges the whole file first.
 use format::DimensionAnswer;
 use format::Span;
+use format::SpanAnswer;
 use format::TileAnswer;
 use format::Verdict;
 ghost use mathlib.Core.Path.{_≡_};
-ghost use Rattle.format.specs.Bytes.{partOf};
 ghost use Rattle.format.specs.File.{metadataPosition, attachmentDirectoryPosition};
 ghost use Rattle.format.specs.Entry.{filePosition};
 ghost use Rattle.format.specs.Directory.{tileCount, entryPlace};
 ghost use Rattle.format.specs.Attachments.{attachmentCount, attachmentEntry, attachmentPosition};
 ghost use Rattle.format.specs.Rules.{verdict, tileVerdict, attachmentVerdict};
-ghost use Rattle.format.specs.Records.{dimensionVerdict, tileAnswer, dimensionAnswer, tilePixels, tileMetadata, tileAttachment, attachmentDataSpan, attachmentData, xmlSpan, xmlAttachmentSpan, commonXml, commonAttachment};
+ghost use Rattle.format.specs.Records.{span, dimensionVerdict, tileOf, dimensionOf, tilePixels, tileMetadata, tileAttachment, attachmentDataSpan, attachmentData, xmlSpan, xmlAttachmentSpan, commonXml, commonAttachment};
+ghost use Rattle.format.specs.Answers.{VerdictAnswered, SpanAnswered, TileAnswered, DimensionAnswered, spanIn};
+ghost use Rattle.format.specs.Views.{View};
 ghost use Rattle.format.specs.declared.Verdict.the-variants.{Accepted};
+
+// The empty stretch.
+fn nothing() -> Span
+    ensures { λ r. ⌜ r ≡ span 0 0 ⌝ }
+{
+    Span {
+        start: 0,
+        length: 0,
+    }
+}
+
+// The stretch that an answer has: the empty one where it is refused.
+pub fn span_in(a: SpanAnswer) -> Span
+    ensures { λ r. ⌜ r ≡ spanIn a ⌝ }
+{
+    match a {
+        SpanAnswer::Found(view) => view,
+        SpanAnswer::Refused {
+            number: _,
+            place: _,
+        } => nothing(),
+    }
+}
 
 // ---- tiles: entries of the sub-block directory, counted from 0
 
 // The refusal of the file, or 24 where there is no tile n.
 pub fn tile_refusal(s: &[u8], n: u64) -> Verdict
-    ensures { λ r. ⌜ r ≡ tileVerdict (now (s .entry)) n ⌝ }
+    ensures { λ r. ⌜ VerdictAnswered (tileVerdict (now (s .entry)) n) r ⌝ }
 {
     let v = judge::judge(s);
     match v {
@@ -58,7 +83,7 @@ fn sub_block_place(s: &[u8], n: u64, e: u64) -> u64
 
 // The tile record of number n.
 pub fn tile(s: &[u8], n: u64) -> TileAnswer
-    ensures { λ r. ⌜ r ≡ tileAnswer (now (s .entry)) n ⌝ }
+    ensures { λ r. ⌜ TileAnswered (tileVerdict (now (s .entry)) n) (tileOf (now (s .entry)) n) r ⌝ }
 {
     let v = tile_refusal(s, n);
     match v {
@@ -72,93 +97,75 @@ pub fn tile(s: &[u8], n: u64) -> TileAnswer
 }
 
 // The stretch of the pixels of tile n.
-pub fn tile_pixels_span(s: &[u8], n: u64) -> Span
-    ensures { λ r. ⌜ r ≡ tilePixels (now (s .entry)) n ⌝ }
+pub fn tile_pixels_span(s: &[u8], n: u64) -> SpanAnswer
+    ensures { λ r. ⌜ SpanAnswered (tileVerdict (now (s .entry)) n) (tilePixels (now (s .entry)) n) r ⌝ }
 {
     let v = tile_refusal(s, n);
     match v {
-        Verdict::Refused {
-            number: _,
-            place: _,
-        } => Span {
-            start: 0,
-            length: 0,
-        },
+        Verdict::Refused { number, place } => SpanAnswer::Refused { number, place },
         Verdict::Accepted => {
             let e = entry_place(s, n);
             let q = sub_block_place(s, n, e);
-            subblocks::pixels_span(s, e, s, q)
+            SpanAnswer::Found(subblocks::pixels_span(s, e, s, q))
         }
     }
 }
 
 // The pixels of tile n: the very bytes of the lent file.
 pub fn tile_pixels(s: &[u8], n: u64) -> &[u8]
-    ensures { λ r. ⌜ now r ≡ partOf (now (s .entry)) (tilePixels (now (s .entry)) n .start) (tilePixels (now (s .entry)) n .length) ⌝ }
+    ensures { λ r. ⌜ View (s .entry) (tilePixels (now (s .entry)) n) r ⌝ }
 {
-    let view = tile_pixels_span(s, n);
+    let view = span_in(tile_pixels_span(s, n));
     let start = view.start;
     let length = view.length;
     fields::part(s, start, length)
 }
 
 // The stretch of the metadata of tile n.
-pub fn tile_metadata_span(s: &[u8], n: u64) -> Span
-    ensures { λ r. ⌜ r ≡ tileMetadata (now (s .entry)) n ⌝ }
+pub fn tile_metadata_span(s: &[u8], n: u64) -> SpanAnswer
+    ensures { λ r. ⌜ SpanAnswered (tileVerdict (now (s .entry)) n) (tileMetadata (now (s .entry)) n) r ⌝ }
 {
     let v = tile_refusal(s, n);
     match v {
-        Verdict::Refused {
-            number: _,
-            place: _,
-        } => Span {
-            start: 0,
-            length: 0,
-        },
+        Verdict::Refused { number, place } => SpanAnswer::Refused { number, place },
         Verdict::Accepted => {
             let e = entry_place(s, n);
             let q = sub_block_place(s, n, e);
-            subblocks::metadata_span(s, e, s, q)
+            SpanAnswer::Found(subblocks::metadata_span(s, e, s, q))
         }
     }
 }
 
 // The metadata of tile n.
 pub fn tile_metadata(s: &[u8], n: u64) -> &[u8]
-    ensures { λ r. ⌜ now r ≡ partOf (now (s .entry)) (tileMetadata (now (s .entry)) n .start) (tileMetadata (now (s .entry)) n .length) ⌝ }
+    ensures { λ r. ⌜ View (s .entry) (tileMetadata (now (s .entry)) n) r ⌝ }
 {
-    let view = tile_metadata_span(s, n);
+    let view = span_in(tile_metadata_span(s, n));
     let start = view.start;
     let length = view.length;
     fields::part(s, start, length)
 }
 
 // The stretch of the attachment of tile n.
-pub fn tile_attachment_span(s: &[u8], n: u64) -> Span
-    ensures { λ r. ⌜ r ≡ tileAttachment (now (s .entry)) n ⌝ }
+pub fn tile_attachment_span(s: &[u8], n: u64) -> SpanAnswer
+    ensures { λ r. ⌜ SpanAnswered (tileVerdict (now (s .entry)) n) (tileAttachment (now (s .entry)) n) r ⌝ }
 {
     let v = tile_refusal(s, n);
     match v {
-        Verdict::Refused {
-            number: _,
-            place: _,
-        } => Span {
-            start: 0,
-            length: 0,
-        },
+        Verdict::Refused { number, place } => SpanAnswer::Refused { number, place },
         Verdict::Accepted => {
             let e = entry_place(s, n);
             let q = sub_block_place(s, n, e);
-            subblocks::attachment_span(s, e, s, q)
+            SpanAnswer::Found(subblocks::attachment_span(s, e, s, q))
         }
     }
 }
 
 // The attachment of tile n.
 pub fn tile_attachment(s: &[u8], n: u64) -> &[u8]
-    ensures { λ r. ⌜ now r ≡ partOf (now (s .entry)) (tileAttachment (now (s .entry)) n .start) (tileAttachment (now (s .entry)) n .length) ⌝ }
+    ensures { λ r. ⌜ View (s .entry) (tileAttachment (now (s .entry)) n) r ⌝ }
 {
-    let view = tile_attachment_span(s, n);
+    let view = span_in(tile_attachment_span(s, n));
     let start = view.start;
     let length = view.length;
     fields::part(s, start, length)
@@ -168,7 +175,7 @@ pub fn tile_attachment(s: &[u8], n: u64) -> &[u8]
 
 // The refusal of the file, or 24 where there is no tile n or no dimension k of it.
 pub fn dimension_refusal(s: &[u8], n: u64, k: u64) -> Verdict
-    ensures { λ r. ⌜ r ≡ dimensionVerdict (now (s .entry)) n k ⌝ }
+    ensures { λ r. ⌜ VerdictAnswered (dimensionVerdict (now (s .entry)) n k) r ⌝ }
 {
     let v = tile_refusal(s, n);
     match v {
@@ -187,7 +194,7 @@ pub fn dimension_refusal(s: &[u8], n: u64, k: u64) -> Verdict
 
 // The dimension record of dimension k of tile n.
 pub fn dimension(s: &[u8], n: u64, k: u64) -> DimensionAnswer
-    ensures { λ r. ⌜ r ≡ dimensionAnswer (now (s .entry)) n k ⌝ }
+    ensures { λ r. ⌜ DimensionAnswered (dimensionVerdict (now (s .entry)) n k) (dimensionOf (now (s .entry)) n k) r ⌝ }
 {
     let v = dimension_refusal(s, n, k);
     match v {
@@ -203,7 +210,7 @@ pub fn dimension(s: &[u8], n: u64, k: u64) -> DimensionAnswer
 
 // The refusal of the file, or 24 where there is no attachment n.
 pub fn attachment_refusal(s: &[u8], n: u64) -> Verdict
-    ensures { λ r. ⌜ r ≡ attachmentVerdict (now (s .entry)) n ⌝ }
+    ensures { λ r. ⌜ VerdictAnswered (attachmentVerdict (now (s .entry)) n) r ⌝ }
 {
     let v = judge::judge(s);
     match v {
@@ -240,27 +247,21 @@ fn data_span(s: &[u8], n: u64, q: u64) -> Span
 }
 
 // The stretch of the data of attachment n.
-pub fn attachment_data_span(s: &[u8], n: u64) -> Span
-    ensures { λ r. ⌜ r ≡ attachmentData (now (s .entry)) n ⌝ }
+pub fn attachment_data_span(s: &[u8], n: u64) -> SpanAnswer
+    ensures { λ r. ⌜ SpanAnswered (attachmentVerdict (now (s .entry)) n) (attachmentData (now (s .entry)) n) r ⌝ }
 {
     let v = attachment_refusal(s, n);
     match v {
-        Verdict::Refused {
-            number: _,
-            place: _,
-        } => Span {
-            start: 0,
-            length: 0,
-        },
-        Verdict::Accepted => data_span(s, n, attachment_place(s, n)),
+        Verdict::Refused { number, place } => SpanAnswer::Refused { number, place },
+        Verdict::Accepted => SpanAnswer::Found(data_span(s, n, attachment_place(s, n))),
     }
 }
 
 // The data of attachment n.
 pub fn attachment_data(s: &[u8], n: u64) -> &[u8]
-    ensures { λ r. ⌜ now r ≡ partOf (now (s .entry)) (attachmentData (now (s .entry)) n .start) (attachmentData (now (s .entry)) n .length) ⌝ }
+    ensures { λ r. ⌜ View (s .entry) (attachmentData (now (s .entry)) n) r ⌝ }
 {
-    let view = attachment_data_span(s, n);
+    let view = span_in(attachment_data_span(s, n));
     let start = view.start;
     let length = view.length;
     fields::part(s, start, length)
@@ -275,10 +276,7 @@ fn xml_span(s: &[u8]) -> Span
 {
     let m = fields::u64_at(s, 92);
     if m == 0 {
-        return Span {
-            start: 0,
-            length: 0,
-        };
+        return nothing();
     }
     let start = m + 288;
     let length = fields::u32_at(s, m + 32);
@@ -292,10 +290,7 @@ fn xml_attachment_span(s: &[u8]) -> Span
 {
     let m = fields::u64_at(s, 92);
     if m == 0 {
-        return Span {
-            start: 0,
-            length: 0,
-        };
+        return nothing();
     }
     let start = m + 288 + fields::u32_at(s, m + 32);
     let length = fields::u32_at(s, m + 36);
@@ -303,54 +298,42 @@ fn xml_attachment_span(s: &[u8]) -> Span
 }
 
 // The stretch of the common XML.
-pub fn common_xml_span(s: &[u8]) -> Span
-    ensures { λ r. ⌜ r ≡ commonXml (now (s .entry)) ⌝ }
+pub fn common_xml_span(s: &[u8]) -> SpanAnswer
+    ensures { λ r. ⌜ SpanAnswered (verdict (now (s .entry))) (commonXml (now (s .entry))) r ⌝ }
 {
     let v = judge::judge(s);
     match v {
-        Verdict::Refused {
-            number: _,
-            place: _,
-        } => Span {
-            start: 0,
-            length: 0,
-        },
-        Verdict::Accepted => xml_span(s),
+        Verdict::Refused { number, place } => SpanAnswer::Refused { number, place },
+        Verdict::Accepted => SpanAnswer::Found(xml_span(s)),
     }
 }
 
 // The common XML.
 pub fn common_xml(s: &[u8]) -> &[u8]
-    ensures { λ r. ⌜ now r ≡ partOf (now (s .entry)) (commonXml (now (s .entry)) .start) (commonXml (now (s .entry)) .length) ⌝ }
+    ensures { λ r. ⌜ View (s .entry) (commonXml (now (s .entry))) r ⌝ }
 {
-    let view = common_xml_span(s);
+    let view = span_in(common_xml_span(s));
     let start = view.start;
     let length = view.length;
     fields::part(s, start, length)
 }
 
 // The stretch of the common XML's attachment.
-pub fn common_attachment_span(s: &[u8]) -> Span
-    ensures { λ r. ⌜ r ≡ commonAttachment (now (s .entry)) ⌝ }
+pub fn common_attachment_span(s: &[u8]) -> SpanAnswer
+    ensures { λ r. ⌜ SpanAnswered (verdict (now (s .entry))) (commonAttachment (now (s .entry))) r ⌝ }
 {
     let v = judge::judge(s);
     match v {
-        Verdict::Refused {
-            number: _,
-            place: _,
-        } => Span {
-            start: 0,
-            length: 0,
-        },
-        Verdict::Accepted => xml_attachment_span(s),
+        Verdict::Refused { number, place } => SpanAnswer::Refused { number, place },
+        Verdict::Accepted => SpanAnswer::Found(xml_attachment_span(s)),
     }
 }
 
 // The common XML's attachment.
 pub fn common_attachment(s: &[u8]) -> &[u8]
-    ensures { λ r. ⌜ now r ≡ partOf (now (s .entry)) (commonAttachment (now (s .entry)) .start) (commonAttachment (now (s .entry)) .length) ⌝ }
+    ensures { λ r. ⌜ View (s .entry) (commonAttachment (now (s .entry))) r ⌝ }
 {
-    let view = common_attachment_span(s);
+    let view = span_in(common_attachment_span(s));
     let start = view.start;
     let length = view.length;
     fields::part(s, start, length)

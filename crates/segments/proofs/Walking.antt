@@ -13,7 +13,7 @@ use Rattle.format.specs.Segments.{nextSegment, lengthBad, segmentRows, walkRows
 use Rattle.format.specs.declared.Verdict.the-variants.{Accepted, Refused}
 use Rattle.format.proofs.Firsts.{first-passed, first-stop}
 use Rattle.format.proofs.SegmentLaws.{Sized, sizes-ok, length-ok, next-is, segment-ok, walk-next, walked-next, walked-few}
-use Rattle.segments.specs.Walk.{Answered, Filled}
+use Rattle.segments.specs.Walk.{WalkAnswered, Filled}
 use Rattle.segments.specs.declared.Walked.{Walked}
 
 -- ---- one turn of the walk, where it stops
@@ -80,17 +80,17 @@ module _ (bs before : List ℕ) (n : ℕ) (t : List ℕ) (p k : ℕ) (w : Walkin
 
   -- what the function answers where the walk stops at p, refused or at the end
   pub answered-refused : (m a : ℕ) → first (walkRows (n - k) bs p) ≡ Refused m a → walkedFrom (n - k) bs p ≡ []
-      → Answered (first (walkRows n bs 0)) (walkedFrom n bs 0) before t (record { verdict = Refused m a; count = 0 })
+      → WalkAnswered (first (walkRows n bs 0)) (walkedFrom n bs 0) before t (record { verdict = Refused m a; count = 0 })
   answered-refused m a v e = record { verdict-is = sym (w .verdict ∙ v); count-is = rw (w .verdict ∙ v); table-is = walked-table e }
 
   pub answered-accepted : first (walkRows (n - k) bs p) ≡ Accepted → walkedFrom (n - k) bs p ≡ []
-      → Answered (first (walkRows n bs 0)) (walkedFrom n bs 0) before t (record { verdict = Accepted; count = k })
+      → WalkAnswered (first (walkRows n bs 0)) (walkedFrom n bs 0) before t (record { verdict = Accepted; count = k })
   answered-accepted v e = record { verdict-is = sym (w .verdict ∙ v); count-is = rw (w .verdict ∙ v) (sym (walked-count e)); table-is = walked-table e }
 
 -- ---- what an accepted walk tells
 
 -- its table holds the walked positions
-pub filled : (bs before after : List ℕ) (r : Walked) → length before ≡ 8192 → Answered (first (segmentsRows bs)) (walked bs) before after r → r .verdict ≡ Accepted → Filled bs after (r .count)
+pub filled : (bs before after : List ℕ) (r : Walked) → length before ≡ 8192 → WalkAnswered (first (segmentsRows bs)) (walked bs) before after r → r .verdict ≡ Accepted → Filled bs after (r .count)
 filled bs before after r h a e =
     let v : first (segmentsRows bs) ≡ Accepted = sym (a .verdict-is) ∙ e in
     let n : r .count ≡ length (walked bs) = a .count-is ∙ rw v in

@@ -7,6 +7,7 @@ use lib.ListN.{length, take, drop, getD}
 use lib.Dec.{eqb}
 use Rattle.format.specs.Bytes.{leastBelow}
 use Rattle.format.specs.Checks.{ifAccepted}
+use Rattle.format.specs.Answers.{VerdictAnswered}
 use Rattle.format.specs.Segments.{walked, walkedAs}
 use Rattle.format.specs.declared.Verdict.{Verdict}
 use Rattle.segments.specs.declared.Walked.{Walked}
@@ -16,12 +17,12 @@ abbrev pub counted : Verdict → List ℕ → ℕ
 counted v l = ifAccepted v (length l) 0
 
 -- the answer r where the verdict is v and the walked positions are l
-pub record Judged (v : Verdict) (l : List ℕ) (r : Walked) : Type 0 where
-  pub verdict-is : r .verdict ≡ v
+pub record SegmentsAnswered (v : Verdict) (l : List ℕ) (r : Walked) : Type 0 where
+  pub verdict : VerdictAnswered v (r .verdict)
   pub count-is : r .count ≡ counted v l
 
 -- the answer r of a walk whose verdict is v and whose walked positions are l: the table holds them from its start, and past them what it held before
-pub record Answered (v : Verdict) (l before after : List ℕ) (r : Walked) : Type 0 where
+pub record WalkAnswered (v : Verdict) (l before after : List ℕ) (r : Walked) : Type 0 where
   pub verdict-is : r .verdict ≡ v
   pub count-is : r .count ≡ counted v l
   pub table-is : after ≡ l ++ drop (length l) before

@@ -7,7 +7,7 @@ ghost use Rattle.format.specs.Names.{nameFile, nameDirectory, nameSubBlock, nam
 ghost use Rattle.format.specs.Checks.{first};
 ghost use Rattle.format.specs.Segments.{allocatedSize, usedSize, room, lengthBad, nameBad, allocatedBad, usedBad, endBad, sizesBad, roleBad, segmentRows, walkRows, walkedFrom, walked, segmentsRows, walkedAs};
 ghost use Rattle.format.proofs.SegmentLaws.{Rising};
-ghost use Rattle.segments.specs.Walk.{Answered, Filled, Judged, indexIn, indexAs};
+ghost use Rattle.segments.specs.Walk.{WalkAnswered, Filled, SegmentsAnswered, indexIn, indexAs};
 use fields::same_name;
 use fields::u64_at;
 use format::Verdict;
@@ -255,7 +255,7 @@ fn judge_segment(s: &[u8], p: u64) -> Verdict
 fn walk_segments(s: &[u8], table: &mut [u64; 8192]) -> Walked
     requires { ⌜ length (now s) % 32 ≡ 0 ⌝ }
     requires { ⌜ length (now table) ≡ 8192 ⌝ }
-    ensures { λ r. ⌜ Answered (first (walkRows 8192 (now (s .entry)) 0)) (walkedFrom 8192 (now (s .entry)) 0) (now (table .entry)) (now (table .exit)) r ⌝ }
+    ensures { λ r. ⌜ WalkAnswered (first (walkRows 8192 (now (s .entry)) 0)) (walkedFrom 8192 (now (s .entry)) 0) (now (table .entry)) (now (table .exit)) r ⌝ }
 {
     let len = s.len() as u64;
     let mut p: u64 = 0;
@@ -294,7 +294,7 @@ fn walk_segments(s: &[u8], table: &mut [u64; 8192]) -> Walked
 // Refusals 1 to 5; the positions of the segments that are not refused go to the table.
 pub fn walk(s: &[u8], table: &mut [u64; 8192]) -> Walked
     requires { ⌜ length (now table) ≡ 8192 ⌝ }
-    ensures { λ r. ⌜ Answered (first (segmentsRows (now (s .entry)))) (walked (now (s .entry))) (now (table .entry)) (now (table .exit)) r ⌝ }
+    ensures { λ r. ⌜ WalkAnswered (first (segmentsRows (now (s .entry)))) (walked (now (s .entry))) (now (table .entry)) (now (table .exit)) r ⌝ }
 {
     if length_bad(s) {
         return Walked {
@@ -310,7 +310,7 @@ pub fn walk(s: &[u8], table: &mut [u64; 8192]) -> Walked
 
 // Refusals 1 to 5, and the number of segments where there is none.
 pub fn judge_segments(s: &[u8]) -> Walked
-    ensures { λ r. ⌜ Judged (first (segmentsRows (now (s .entry)))) (walked (now (s .entry))) r ⌝ }
+    ensures { λ r. ⌜ SegmentsAnswered (first (segmentsRows (now (s .entry)))) (walked (now (s .entry))) r ⌝ }
 {
     let mut table = [0u64; 8192];
     walk(s, &mut table)

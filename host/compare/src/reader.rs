@@ -85,8 +85,10 @@ fn check_request(
     match request {
         Request::Tile(entry) => {
             let tile = file.and_then(|f| f.tile(entry));
-            let wanted = answer(tile.map(record), NO_TILE);
-            report.compare(&what(), &calls::tile(bytes, entry), &wanted);
+            let mut got = LENT_TILE;
+            let told = calls::tile(bytes, entry, &mut got);
+            report.compare(&what(), &told, &answer(tile.map(|_| ()), ()));
+            report.compare(&what(), &got, &tile.map_or(LENT_TILE, record));
             tile.err()
         }
         Request::Dimension(entry, k) => {
@@ -132,9 +134,10 @@ const NO_PART: Span = Span {
     length: 0,
 };
 
-const NO_TILE: TileRecord = TileRecord {
-    numbers: [0; calls::TILE_NUMBERS],
-    starts: [0; calls::TILE_STARTS],
+/// What a lent record holds before a call, and after one that is refused.
+const LENT_TILE: TileRecord = TileRecord {
+    numbers: [0xC3C3_C3C3_C3C3_C3C3; calls::TILE_NUMBERS],
+    starts: [0x3C3C_3C3C; calls::TILE_STARTS],
 };
 
 const NO_DIMENSION: DimensionRecord = DimensionRecord {

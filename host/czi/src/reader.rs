@@ -1,6 +1,6 @@
 //! The reader: verdict, parts, records, listing.
 
-use crate::calls::{self, Answer, Span};
+use crate::calls::{self, Answer, Span, TileRecord};
 use crate::records::{Dimension, Summary, Tile};
 use crate::refusal::Refusal;
 
@@ -67,7 +67,8 @@ pub fn common_attachment(file: &[u8]) -> Result<&[u8], Refusal> {
 ///
 /// Refusals: those of [`judge`]; 24 where there is no such entry.
 pub fn tile(file: &[u8], entry: u64) -> Result<Tile, Refusal> {
-    let record = calls::tile(file, entry).result()?;
+    let mut record = TileRecord::default();
+    calls::tile(file, entry, &mut record).result()?;
     Ok(record.named().expect("an accepted file has listed types"))
 }
 

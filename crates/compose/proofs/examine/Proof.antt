@@ -24,19 +24,19 @@ enum-told : tie.Need-enum-told
 enum-told c = search needs
 
 examine-question-requires : tie.Need-examine-question-requires
-examine-question-requires c κs = (sym (c .before .before .before .judge .ensures) ∙ c .before .enum-told .given .1, c .before .before .before .before .before .before .pre)
+examine-question-requires c κs = (sym (c .before .before .before .judge .ensures .answer-is) ∙ c .before .enum-told .given .1, c .before .before .before .before .before .before .pre)
 
 returns : tie.Need-returns
 unfolding callVerdict verdict
 returns c =
     let a = c .before .before .before .before .before .before .args in
-    record { verdict-is = then-stop _ (checks (now (a .s))) ((askRows (a .f) (now (a .background)) (a .target) (a .map)) ++ (agreeRows (now (a .s)) (λ (k : ℕ). selects (now (a .s)) (now (a .starts)) (a .any-scene) (entryPlace (now (a .s)) k)) (a .f))) _ _ (c .before .before .before .judge .ensures) (c .before .v .given .1); selects-so = λ e. not-both _ _ e }
+    record { verdict-is = then-stop _ (checks (now (a .s))) ((askRows (a .f) (now (a .background)) (a .target) (a .map)) ++ (agreeRows (now (a .s)) (λ (k : ℕ). selects (now (a .s)) (now (a .starts)) (a .any-scene) (entryPlace (now (a .s)) k)) (a .f))) _ _ (c .before .before .before .judge .ensures .answer-is) (c .before .v .given .1); selects-so = λ e. not-both _ _ e }
 
 returns-2 : tie.Need-returns-2
 unfolding callVerdict verdict
 returns-2 c =
     let a = c .before .before .before .before .before .before .before .args in
-    record { verdict-is = then-next _ _ (checks (now (a .s))) ((askRows (a .f) (now (a .background)) (a .target) (a .map)) ++ (agreeRows (now (a .s)) (λ (k : ℕ). selects (now (a .s)) (now (a .starts)) (a .any-scene) (entryPlace (now (a .s)) k)) (a .f))) (c .before .before .before .before .judge .ensures) (c .before .before .enum-told .given .1) (c .examine-question .ensures .verdict-is); selects-so = λ e. c .examine-question .ensures .selects-so e }
+    record { verdict-is = then-next _ _ (checks (now (a .s))) ((askRows (a .f) (now (a .background)) (a .target) (a .map)) ++ (agreeRows (now (a .s)) (λ (k : ℕ). selects (now (a .s)) (now (a .starts)) (a .any-scene) (entryPlace (now (a .s)) k)) (a .f))) (c .before .before .before .before .judge .ensures .answer-is) (c .before .before .enum-told .given .1) (c .examine-question .ensures .verdict-is); selects-so = λ e. c .examine-question .ensures .selects-so e }
 
 pub examine-spec : {M : Type 1} → statement M
 examine-spec =

@@ -19,7 +19,7 @@ part-result-end c = search needs
 
 returns : tie.Need-returns
 unfolding partOf
-returns c = rw add-sub-cancel-left
+returns c = record { bytes = rw add-sub-cancel-left; block = search needs; first-byte = search needs }
 
 pub part-spec : {M : Type 1} → statement M
 part-spec = tie.close (tie.spec add-to sub-result part-result-start part-result-end returns)

@@ -11,6 +11,7 @@ use Rattle.format.specs.Directory.{directoryRows}
 use Rattle.format.specs.Attachments.{metadataRows, attachmentsRows}
 use Rattle.format.specs.Rules.{checks, verdict}
 use Rattle.format.proofs.Walk.{file-long}
+use Rattle.format.proofs.Answering.{verdict-answered}
 use Rattle.segments.proofs.Walking.{filled}
 use borrow.Author.Needs.{needs}
 use Rattle.judge.proofs.judge.Statement.{statement}
@@ -32,13 +33,13 @@ returns : tie.Need-returns
 unfolding verdict checks
 returns c =
     let bs = now (c .before .before .before .before .before .before .args .s) in
-    then-stop _ (segmentsRows bs) (fileRows bs ++ (directoryRows bs ++ (metadataRows bs ++ attachmentsRows bs))) _ _ (c .before .before .before .walk .ensures .verdict-is) (c .before .v .given .1)
+    verdict-answered (then-stop _ (segmentsRows bs) (fileRows bs ++ (directoryRows bs ++ (metadataRows bs ++ attachmentsRows bs))) _ _ (c .before .before .before .walk .ensures .verdict-is) (c .before .v .given .1))
 
 returns-2 : tie.Need-returns-2
 unfolding verdict checks
 returns-2 c =
     let bs = now (c .before .before .before .before .before .before .before .args .s) in
-    then-next _ _ (segmentsRows bs) (fileRows bs ++ (directoryRows bs ++ (metadataRows bs ++ attachmentsRows bs))) (c .before .before .before .before .walk .ensures .verdict-is) (c .before .before .enum-told .given .1) (c .judge-walked .ensures)
+    verdict-answered (then-next _ _ (segmentsRows bs) (fileRows bs ++ (directoryRows bs ++ (metadataRows bs ++ attachmentsRows bs))) (c .before .before .before .before .walk .ensures .verdict-is) (c .before .before .enum-told .given .1) (c .judge-walked .ensures))
 
 pub judge-spec : {M : Type 1} → statement M
 judge-spec =

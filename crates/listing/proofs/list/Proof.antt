@@ -1,5 +1,5 @@
 -- `listing::list` meets its contract.
-use mathlib.Core.Path.{sym, _∙_}
+use Rattle.format.proofs.Answering.{accepted}
 use Rattle.listing.proofs.Texts.{figures-held, listing-long, listing-refused, listing-accepted}
 use borrow.Author.Needs.{needs}
 use Rattle.listing.proofs.list.Statement.{statement}
@@ -24,16 +24,16 @@ enum-told : tie.Need-enum-told
 enum-told c = search needs
 
 figures-of-requires : tie.Need-figures-of-requires
-figures-of-requires c κs = sym (c .before .before .judge .ensures) ∙ c .enum-told .given .1
+figures-of-requires c κs = accepted (c .before .before .judge .ensures) (c .enum-told .given .1)
 
 figures-text-requires : tie.Need-figures-text-requires
-figures-text-requires c κs = figures-held _ _ (c .figures-of .ensures) (sym (c .before .before .before .judge .ensures) ∙ c .before .enum-told .given .1)
+figures-text-requires c κs = figures-held _ _ (c .figures-of .ensures) (accepted (c .before .before .before .judge .ensures) (c .before .enum-told .given .1))
 
 returns-2 : tie.Need-returns-2
-returns-2 c = listing-refused _ _ _ _ _ (c .before .before .before .before .before .if1 .left) (c .before .before .before .before .judge .ensures) (c .before .before .v .given .1) (c .refusal-text2 .ensures)
+returns-2 c = listing-refused _ _ _ _ _ (c .before .before .before .before .before .if1 .left) (c .before .before .before .before .judge .ensures .answer-is) (c .before .before .v .given .1) (c .refusal-text2 .ensures)
 
 returns-3 : tie.Need-returns-3
-returns-3 c = listing-accepted _ _ _ (c .before .before .before .before .before .if1 .left) (sym (c .before .before .before .before .judge .ensures) ∙ c .before .before .enum-told .given .1) (c .before .figures-of .ensures) (c .figures-text .ensures)
+returns-3 c = listing-accepted _ _ _ (c .before .before .before .before .before .if1 .left) (accepted (c .before .before .before .before .judge .ensures) (c .before .before .enum-told .given .1)) (c .before .figures-of .ensures) (c .figures-text .ensures)
 
 pub list-spec : {M : Type 1} → statement M
 list-spec =

@@ -1,10 +1,10 @@
 -- `parts::attachment_refusal` meets its contract.
 use native.Mathlib.Omega.{arith}
-use mathlib.Core.Path.{sym, _∙_}
 use denote.Ref.{now}
 use lib.Dec.{leb}
 use Rattle.format.specs.Attachments.{attachmentCount}
 use Rattle.format.specs.Rules.{checks, verdict, attachmentVerdict}
+use Rattle.format.proofs.Answering.{accepted}
 use Rattle.format.proofs.Flags.{le-yes, le-no}
 use Rattle.parts.proofs.Numbered.{refused-before, no-such, is-there}
 use borrow.Author.Needs.{needs}
@@ -21,7 +21,7 @@ enum-told : tie.Need-enum-told
 enum-told c = search needs
 
 attachment-count-requires : tie.Need-attachment-count-requires
-attachment-count-requires c κs = sym (c .before .before .judge .ensures) ∙ c .enum-told .given .1
+attachment-count-requires c κs = accepted (c .before .before .judge .ensures) (c .enum-told .given .1)
 
 returns : tie.Need-returns
 unfolding verdict attachmentVerdict

@@ -1,10 +1,10 @@
 -- `parts::tile_refusal` meets its contract.
 use native.Mathlib.Omega.{arith}
-use mathlib.Core.Path.{sym, _∙_}
 use denote.Ref.{now}
 use lib.Dec.{leb}
 use Rattle.format.specs.Directory.{tileCount}
 use Rattle.format.specs.Rules.{checks, verdict, tileVerdict}
+use Rattle.format.proofs.Answering.{accepted}
 use Rattle.format.proofs.Flags.{le-yes, le-no}
 use Rattle.parts.proofs.Numbered.{refused-before, no-such, is-there}
 use borrow.Author.Needs.{needs}
@@ -21,7 +21,7 @@ enum-told : tie.Need-enum-told
 enum-told c = search needs
 
 tile-count-requires : tie.Need-tile-count-requires
-tile-count-requires c κs = sym (c .before .before .judge .ensures) ∙ c .enum-told .given .1
+tile-count-requires c κs = accepted (c .before .before .judge .ensures) (c .enum-told .given .1)
 
 returns : tie.Need-returns
 unfolding verdict tileVerdict

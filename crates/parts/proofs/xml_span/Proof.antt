@@ -6,6 +6,7 @@ use Rattle.format.specs.File.{metadataPosition}
 use Rattle.format.specs.Attachments.{xmlSize}
 use Rattle.format.specs.Records.{xmlSpan}
 use Rattle.judge.proofs.AcceptedFile.{tiled, described}
+use borrow.Author.Needs.{needs}
 use Rattle.parts.proofs.xml_span.Statement.{statement}
 use Rattle.parts.proofs.xml_span.Tie as tie
 
@@ -14,7 +15,7 @@ u64-at-requires c κs = omega (arith, tiled _ (c .before .pre) .long)
 
 returns : tie.Need-returns
 unfolding xmlSpan metadataPosition
-returns c = rw (← c .before .u64-at .ensures, eq-eqb _ _ (c .if1 .taken))
+returns c = rw (← c .before .before .u64-at .ensures, eq-eqb _ _ (c .before .if1 .taken)) (c .nothing .ensures)
 
 add-start : tie.Need-add-start
 unfolding metadataPosition
@@ -34,4 +35,4 @@ returns-2 c = rw (← c .before .before .u64-at .ensures, ne-eqb _ _ (c .before 
 
 pub xml-span-spec : {M : Type 1} → statement M
 xml-span-spec =
-    tie.close (tie.spec u64-at-requires returns add-start add-u32-at u32-at-requires returns-2)
+    tie.close (tie.spec u64-at-requires (λ c κs. search needs) returns add-start add-u32-at u32-at-requires returns-2)

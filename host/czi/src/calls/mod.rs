@@ -56,8 +56,8 @@ pub struct Span {
     pub length: u64,
 }
 
-/// A tile record, in the order of the header; all are 0 where refused.
-#[derive(Clone, Copy, Debug, PartialEq, Eq)]
+/// A tile record, in the order of the header.
+#[derive(Clone, Copy, Debug, Default, PartialEq, Eq)]
 pub struct TileRecord {
     /// The numbers.
     pub numbers: [u64; TILE_NUMBERS],
@@ -176,13 +176,10 @@ pub fn common_attachment(file: &[u8]) -> Answer<Span> {
     common(ffi::czi_common_attachment, file)
 }
 
-/// The record of a tile; 24 where there is no such entry.
-pub fn tile(file: &[u8], entry: u64) -> Answer<TileRecord> {
+/// The record of a tile, into the one that is lent, which stays as it was where
+/// refused; 24 where there is no such entry.
+pub fn tile(file: &[u8], entry: u64, record: &mut TileRecord) -> Answer<()> {
     let mut place = UNWRITTEN;
-    let mut value = TileRecord {
-        numbers: [UNWRITTEN; TILE_NUMBERS],
-        starts: [UNWRITTEN_INT; TILE_STARTS],
-    };
     // SAFETY: file is so many bytes, numbers and starts are to as many as the header says.
     let number = unsafe {
         ffi::czi_tile(
@@ -190,10 +187,11 @@ pub fn tile(file: &[u8], entry: u64) -> Answer<TileRecord> {
             file.len(),
             entry,
             &mut place,
-            value.numbers.as_mut_ptr(),
-            value.starts.as_mut_ptr(),
+            record.numbers.as_mut_ptr(),
+            record.starts.as_mut_ptr(),
         )
     };
+    let value = ();
     Answer {
         number,
         place,
