@@ -4,30 +4,75 @@
  * checked before a call, and no call changes a byte of the file. Lent to be written are a target, a map and the arrays
  * of a record: a refused call changes none of them.
  *
- * Every function but czi_list returns the number of the refusal, 0 where there is none. A single number behind an
- * out-pointer is part of the answer: it is written always, and is 0 where there is nothing to say.
+ * Every function with a file but czi_list returns the number of the refusal, 0 where there is none. A single number
+ * behind an out-pointer is part of the answer: it is written always, and is 0 where there is nothing to say.
  *   place   where the refusal is, as a byte offset in the file; 0 where there is none.
  * Each question judges the whole file first: a file that czi_judge refuses is refused so by all of them (but that
  * czi_list looks at the length before).
  *
- * What a caller owes, which nothing here tests: no pointer is NULL, not even that of a file of length 0; file has
- * file_len bytes, and so for all that is lent; an out-pointer is to as many objects of its type as are named. What is
- * written, a target, a map or what stands behind an out-pointer, is apart from all else that the call is given. A call
- * takes some 80 KiB of stack, one that composes some 150. No function keeps a pointer, and there is no state:
- * calls may run side by side.
+ * What a caller owes, which nothing here tests:
+ *   - No pointer is NULL, not even that of a file of length 0: CZI_NONE is a pointer for what has no length.
+ *   - file has file_len bytes, and so for all that is lent; an out-pointer is to as many objects of its type as named.
+ *   - What is written, a target, a map or what stands behind an out-pointer, is apart from all else that is given.
+ *   - What is lent stays still: while a call runs nobody else writes to the file's bytes or to anything that the call
+ *     is given. So a mapped file must not be changed, and not be cut either: a read past its end is a SIGBUS.
  *
- * The refusals by number; crates/format/specs says when each is given and which goes first, of 30 crates/listing/specs:
- *    1 length             5 first segment     9 positions          13 compression    17 chunk
- *    2 segment name       6 Major            10 directory          14 named segment  18 mask
- *    3 segment sizes      7 FilePart         11 entry              15 copy           24 no such number
- *    4 segment count      8 UpdatePending    12 pixel type         16 sizes          30 too long to list
- * and of a composer, after those of the file; crates/question/specs says when:
- *   20 window            21 asked pixel      22 lent too short     23 a tile's type
+ * Platform and cost: x86-64 and Linux, nothing but memcpy, memmove and memset of libc. No memory is allocated. A call
+ * takes some 80 KiB of stack, one that composes some 150. It judges the file each time: that reads the headers of its
+ * segments, its entries and what belongs to its tiles but the pixels, so it grows with the number of tiles and the
+ * length of their metadata. Whoever asks for many records or parts pays for each. No function keeps a pointer, and
+ * there is no state: calls may run side by side.
+ *
+ * When each refusal is given. A file is segments one behind the other: a header of 32 bytes (a name of 16,
+ * AllocatedSize, UsedSize) and AllocatedSize bytes, of which the first UsedSize are in use (0 means all): its room. The
+ * place is that of the segment, entry or chunk that is named; 0 where none is.
+ *    1 length           The file has no bytes, a length that is no multiple of 32, or more than 2^40 bytes.
+ *    2 segment name     A segment has none of the format's seven names.
+ *    3 segment sizes    A segment's AllocatedSize is negative or no multiple of 32, its UsedSize negative or larger, or
+ *                       it ends past the file: so does the last one of a file that was cut.
+ *    4 segment count    There are more than 8,192 segments; the place is that of the first too many.
+ *    5 first segment    The first segment is not the file segment, a later one is, or its room is under 80 bytes.
+ *    6 Major            The format's major version is not 1.
+ *    7 FilePart         The file is in several parts: FilePart of the file segment (place 0) or of an entry is not 0.
+ *    8 UpdatePending    The writer was not done: UpdatePending is not 0.
+ *    9 positions        Where the file segment says that the sub-block directory, the metadata or the attachment
+ *                       directory is, no segment of that kind begins; 0 is none of the last two. The place is the
+ *                       field's: 84, 92, 104.
+ *   10 directory        A directory's fixed part (128 bytes, 256 for attachments) or its entries do not fit its room,
+ *                       or it has a negative number of entries or more than 4,096. Or the sizes of the metadata segment
+ *                       are negative, or 256 and both do not fit its room. The place is the segment's.
+ *   11 entry            A tile's entry lacks its mark DV, has not 1 to 16 dimensions, a letter that is not A to Z or is
+ *                       there twice, no X or no Y, or Y before X, X or Y of a size below 1, another letter whose size
+ *                       or stored size is not 1, a start and size that add up to over 2,147,483,647, or a negative
+ *                       stored size. An attachment's entry lacks its mark A1, or a zero byte in its name.
+ *   12 pixel type       An entry has a type that czi_pixel_bytes does not know.
+ *   13 compression      An entry says that its pixels are compressed.
+ *   14 named segment    Where an entry says that its sub-block, or its attachment, is, none begins.
+ *   15 copy             A sub-block or an attachment has no room for its fixed part, or its copy of the entry differs.
+ *   16 sizes            A sub-block's or an attachment's sizes are negative or do not fit its room, or a tile's pixels
+ *                       are not stored width * stored height * bytes a pixel.
+ *   17 chunk            In an attachment of a tile that is said to hold chunks, a chunk's header is cut, its size is
+ *                       negative, or it ends past the attachment. Of 17 and 18 the place is the chunk's header.
+ *   18 mask             A tile's mask is under 16 bytes, has a negative width, height or stride, a representation that
+ *                       is not 0, lines shorter than its width or more of them than its chunk holds; or it is the
+ *                       tile's second.
+ *   20 window           Of a composer: a side is not 1 to 65,536, or the right or bottom edge is above 2,147,483,647.
+ *   21 asked pixel      Of a composer: there is no such pixel type, or the background is not one pixel long.
+ *   22 lent too short   Of a composer: the target or the map is too short.
+ *   23 a tile's type    Of a composer: a selected tile that meets the window has another pixel type than was asked for;
+ *                       the place is the first such entry's.
+ *   24 no such number   There is no tile, dimension or attachment of the number asked for; they are counted from 0.
+ *   30 too long to list Of czi_list: the file has over 65,536 bytes.
+ * The first that applies is given, in this order: 30; 1; for each segment 4, 2, 3, 5; 6; 7; 8; 9; the sub-block
+ * directory entry by entry, each with its sub-block and its chunks; the metadata segment; the attachment directory
+ * entry by entry; then 20 to 24. czi_refusal_words has a line for each.
  *
  * Each function is proved to give exactly what its contract says (crates/czi/src; what the contracts cite is
- * in crates/czi/specs). Nothing checks this header against them.
+ * in crates/czi/specs). host/tests/interface holds the declarations here against those there; what the words here say
+ * of an answer is tested, not proved.
  *
- * Built by `rt staticlib czi`, linked as  cc -Iinclude yours.c target/staticlib/libczi.a
+ * Linked as  cc yours.c $(pkg-config --cflags --libs czi)  where ./install has put it; or, beside the sources, built by
+ * `rt staticlib czi` and linked as  cc -Iinclude yours.c target/staticlib/libczi.a
  */
 #ifndef CZI_H
 #define CZI_H
@@ -35,9 +80,25 @@
 #include <stddef.h>
 #include <stdint.h>
 
+/* The number of this interface, which is that of the shared library's soname too. It rises when a declaration that was
+ * here changes, an array's length too; not when one is added. A program may compare it with what czi_version gives. */
+#define CZI_VERSION 1
+
 #ifdef __cplusplus
 extern "C" {
 #endif
+
+/* ---- Without a file. */
+
+/* The number of the interface that the library was built with. */
+uint32_t czi_version(void);
+
+/* The bytes of a pixel of that type; 0 for one that is not listed.
+ *   0 Gray8: 1        2 GrayFloat: 4    4 Bgr48: 6         9 Bgra32: 4          11 BgrComplex: 24
+ *   1 Gray16: 2       3 Bgr24: 3        8 BgrFloat: 12     10 GrayComplex: 8 */
+uint32_t czi_pixel_bytes(uint32_t pixel_type);
+
+/* ---- With a file. */
 
 /* The verdict on a file. */
 uint32_t czi_judge(const uint8_t *file, size_t file_len, uint64_t *place);
@@ -130,7 +191,8 @@ uint32_t czi_summary(const uint8_t *file, size_t file_len, uint64_t *place,
 /* ---- The listing: lines of plain ASCII text, each ended by a newline.
  *
  * text is to CZI_TEXT bytes, which are the answer, all of them written always: the text, whose length is returned, and
- * zeros behind it. A refusal is in the text, 30 for a file of over 65,536 bytes too. */
+ * zeros behind it. No text fills the array, so a zero byte always follows: it is a string of C too. A refusal is in the
+ * text, 30 for a file of over 65,536 bytes too. */
 enum { CZI_TEXT = 192 };
 
 uint64_t czi_list(const uint8_t *file, size_t file_len, uint8_t *text);
@@ -141,8 +203,8 @@ uint64_t czi_list(const uint8_t *file, size_t file_len, uint8_t *text);
  * starts       where the tiles to select start, for the letters A to Z: what is missing is 0, what is past 26 is
  *              ignored, and so are X, Y and M. A letter that a tile lacks counts as 0. Pyramid tiles are not selected.
  * any_scene    0: S selects as the other letters do; else tiles of any S, and without S, are selected.
- * pixel_type   that of the target's pixels: every selected tile that meets the window has it, else 23. Bytes a pixel:
- *              0: 1, 1: 2, 2: 4, 3: 3, 4: 6, 8: 12, 9: 4, 10: 8, 11: 24.
+ * pixel_type   that of the target's pixels: every selected tile that meets the window has it, else 23. czi_pixel_bytes
+ *              gives the bytes of a pixel.
  * background   one pixel.
  * left, top    the window's corner in the plane; width and height, 1 to 65,536.
  * masks        1 on: a tile gives only its valid pixels. 2 off. Any other number: not chosen, which is off.
@@ -184,5 +246,7 @@ uint32_t czi_compose_quick(const uint8_t *file, size_t file_len,
 #ifdef __cplusplus
 }
 #endif
+
+#include "czi_words.h"
 
 #endif

@@ -4,7 +4,7 @@
 use std::path::PathBuf;
 
 fn main() {
-    println!("cargo:rerun-if-env-changed=CZI_LIB_DIR");
+    println!("cargo::rerun-if-env-changed=CZI_LIB_DIR");
     let folder = match std::env::var_os("CZI_LIB_DIR") {
         Some(folder) => PathBuf::from(folder),
         None => {
@@ -13,12 +13,12 @@ fn main() {
         }
     };
     let library = folder.join("libczi.a");
-    println!("cargo:rerun-if-changed={}", library.display());
+    println!("cargo::rerun-if-changed={}", library.display());
     if !library.is_file() {
         let library = library.display();
-        println!("cargo:error={library} is missing: run `rt staticlib czi`, or set CZI_LIB_DIR");
+        println!("cargo::error={library} is missing: run `rt staticlib czi`, or set CZI_LIB_DIR");
         return;
     }
-    println!("cargo:rustc-link-search=native={}", folder.display());
-    println!("cargo:rustc-link-lib=static=czi");
+    println!("cargo::rustc-link-search=native={}", folder.display());
+    println!("cargo::rustc-link-lib=static=czi");
 }

@@ -13,21 +13,6 @@
 /* No pixel has more bytes: type 11. */
 enum { MOST_BYTES_A_PIXEL = 24 };
 
-/* The bytes of a pixel by type. */
-static size_t bytes_a_pixel(uint64_t type) {
-    switch (type) {
-    case 0: return 1;
-    case 1: return 2;
-    case 2: return 4;
-    case 3: return 3;
-    case 4: return 6;
-    case 8: return 12;
-    case 9: return 4;
-    case 10: return 8;
-    default: return MOST_BYTES_A_PIXEL;
-    }
-}
-
 /* The whole file, never NULL; the program ends where it can't be read. */
 static uint8_t *read_file(const char *path, size_t *length) {
     FILE *from = fopen(path, "rb");
@@ -50,7 +35,7 @@ static uint8_t *read_file(const char *path, size_t *length) {
 }
 
 static int refused(uint32_t number, uint64_t place) {
-    fprintf(stderr, "refused %u at %llu\n", (unsigned)number, (unsigned long long)place);
+    fprintf(stderr, "refused %u at %llu: %s\n", (unsigned)number, (unsigned long long)place, czi_refusal_words(number));
     return 2;
 }
 
@@ -72,11 +57,10 @@ static int compose(const uint8_t *file, size_t length) {
 
     uint32_t type = (uint32_t)numbers[CZI_TILE_PIXEL_TYPE];
     uint32_t width = (uint32_t)right - (uint32_t)left, height = (uint32_t)bottom - (uint32_t)top;
-    size_t pixel = bytes_a_pixel(type), pixels = (size_t)width * height;
+    size_t pixel = czi_pixel_bytes(type), pixels = (size_t)width * height;
     size_t target_length = pixels * pixel, map_length = (pixels + 7) / 8;
     const uint8_t background[MOST_BYTES_A_PIXEL] = {0};
-    const int32_t asked[1] = {0}; /* a start for A; the letters behind it are at 0 too */
-    uint8_t *target[2], *map[2];
+    uint8_t *target[2], *map[2]; /* no starts are lent: all are 0, and any scene is taken */
     uint64_t covered[2], stored[2];
     for (int quick = 0; quick < 2; quick++) {
         target[quick] = malloc(target_length);
@@ -86,7 +70,7 @@ static int compose(const uint8_t *file, size_t length) {
             return 1;
         }
         number = (quick ? czi_compose_quick : czi_compose_plain)(
-            file, length, asked, 1, 1, type, background, pixel, left, top, width, height, CZI_MASKS_ON,
+            file, length, CZI_NONE, 0, 1, type, background, pixel, left, top, width, height, CZI_MASKS_ON,
             target[quick], target_length, map[quick], map_length, &place, &covered[quick], &stored[quick]);
         if (number != 0) return refused(number, place);
     }

@@ -3,6 +3,7 @@
 use crate::planes;
 use crate::reader;
 use crate::report::Report;
+use crate::zeros::Zeros;
 use generate::damage::EXTERNAL_CLAUSE;
 use generate::{Random, Sound, LIMITS, LISTING_CLAUSES};
 use reference::{list, Refusal};
@@ -42,7 +43,7 @@ pub fn check(sound: &Sound, random: &mut Random, report: &mut Report) {
 pub fn check_longest(report: &mut Report) {
     report.at(EXTERNAL_CLAUSE, &[]);
     for (length, number) in [(LONGEST, 2), (LONGEST + 32, 1), (LONGEST + 31, 1)] {
-        match czi::zeros(length) {
+        match Zeros::new(length) {
             Ok(bytes) => {
                 let wanted = reader::answer(Err(Refusal::new(number, 0)), ());
                 let refusal = reference::judge(&bytes).map(|_| ());

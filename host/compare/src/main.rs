@@ -5,7 +5,7 @@
 //! one reached not once fails the run, as any difference does, and a failing
 //! case is kept in a file that says how to run it again.
 
-#![forbid(unsafe_code)]
+#![deny(unsafe_code)]
 
 mod damages;
 mod lent;
@@ -14,6 +14,8 @@ mod options;
 mod planes;
 mod reader;
 mod report;
+mod types;
+mod zeros;
 
 use generate::{freedoms_of, sound, Random};
 use options::Options;
@@ -52,6 +54,7 @@ fn run(options: &Options) -> Report {
     }
     if !options.replay {
         limits::check_longest(&mut report);
+        types::check(&mut report);
     }
     report
 }

@@ -1,7 +1,9 @@
-//! The functions of `include/czi.h`. Nothing checks these lines against it but
-//! the comparison.
+//! The functions of `include/czi.h`; `host/tests/interface` holds these lines
+//! against it.
 
 extern "C" {
+    pub fn czi_version() -> u32;
+    pub fn czi_pixel_bytes(pixel_type: u32) -> u32;
     pub fn czi_judge(file: *const u8, file_len: usize, place: *mut u64) -> u32;
     pub fn czi_tile_pixels(
         file: *const u8,

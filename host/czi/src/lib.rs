@@ -7,6 +7,19 @@
 //! refuses, all of them refuse alike (but that [`list`] looks at the length
 //! before). A [`Refusal`] has a number of paper 01's table and a place.
 //!
+//! ```
+//! # fn main() -> Result<(), Box<dyn std::error::Error>> {
+//! let file = std::fs::read("../samples/mosaic.czi")?;
+//! for tile in czi::tiles(&file)? {
+//!     println!("{:?} from {}, {} on", tile.pixel_type, tile.x.start, tile.y.start);
+//! }
+//! let edges = czi::summary(&file)?.edges.ok_or("no tile has a place in a plane")?;
+//! let question = czi::Question::default().over(edges).masks(czi::Masks::On);
+//! assert_eq!(czi::compose(&file, &question)?.covered, 1138);
+//! # Ok(())
+//! # }
+//! ```
+//!
 //! [`calls`] has the functions of `include/czi.h` one for one, for those who
 //! want each number of an answer, refused ones too.
 
@@ -18,17 +31,26 @@ mod compose;
 mod ffi;
 mod mapping;
 mod pixel;
+mod plane;
+mod question;
 mod reader;
 mod records;
 mod refusal;
+mod tiles;
+
+/// `CZI_VERSION` of the header that this crate was written for.
+pub const VERSION: u32 = 1;
 
 pub use calls::Counted;
-pub use compose::{compose_plain, compose_quick, Masks, Question, Scene};
+pub use compose::{compose_plain, compose_quick};
 pub use mapping::{map, zeros, Mapping};
 pub use pixel::PixelType;
+pub use plane::{compose, NoPlane, Plane};
+pub use question::{Masks, Question, Scene};
 pub use reader::{
     attachment_data, common_attachment, common_xml, dimension, judge, list, summary, tile,
     tile_attachment, tile_metadata, tile_pixels,
 };
 pub use records::{Dimension, Edges, Extent, Mask, Summary, Tile};
 pub use refusal::{Reason, Refusal};
+pub use tiles::{dimensions, tiles, Tiles};

@@ -12,7 +12,9 @@ pub fn judge(file: &[u8]) -> Result<(), Refusal> {
 }
 
 fn part(file: &[u8], answer: Answer<Span>) -> Result<&[u8], Refusal> {
-    answer.result().map(|span| &file[span.range()])
+    let span = answer.result()?;
+    let bytes = span.range().and_then(|range| file.get(range));
+    Ok(bytes.expect("a part lies in the file"))
 }
 
 /// The pixels of a tile, the very bytes of the lent file; `entry` counts the

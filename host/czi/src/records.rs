@@ -109,16 +109,31 @@ pub struct Summary {
     pub edges: Option<Edges>,
 }
 
+impl Edges {
+    /// Right less left.
+    pub fn width(&self) -> u32 {
+        self.right.abs_diff(self.left)
+    }
+
+    /// Bottom less top.
+    pub fn height(&self) -> u32 {
+        self.bottom.abs_diff(self.top)
+    }
+}
+
 impl Span {
-    /// The offsets in the file, which the part lies in.
-    pub fn range(self) -> Range<usize> {
-        self.start as usize..(self.start + self.length) as usize
+    /// The offsets in the file; nothing where the end is above any offset,
+    /// which that of no part of a file is.
+    pub fn range(self) -> Option<Range<usize>> {
+        let start = usize::try_from(self.start).ok()?;
+        let length = usize::try_from(self.length).ok()?;
+        Some(start..start.checked_add(length)?)
     }
 }
 
 impl TileRecord {
-    /// The same with names; nothing where its type is not a listed one, which
-    /// an accepted file has not.
+    /// The same with names; nothing where its type is not a listed one or a
+    /// part has no end, which is so of no tile of an accepted file.
     pub fn named(&self) -> Option<Tile> {
         let n = &self.numbers;
         let [x, y, m] = self.starts;
@@ -144,9 +159,9 @@ impl TileRecord {
             x: extent(x, 6),
             y: extent(y, 8),
             m: (n[10] != 0).then_some(m),
-            metadata: range(11),
-            pixels: range(13),
-            attachment: range(15),
+            metadata: range(11)?,
+            pixels: range(13)?,
+            attachment: range(15)?,
             mask: (n[17] != 0).then_some(Mask {
                 place: n[18],
                 width: n[19],
@@ -186,5 +201,30 @@ impl Figures {
                 bottom,
             }),
         }
+    }
+}
+
+#[cfg(test)]
+mod tests {
+    use super::{Edges, Span};
+
+    #[test]
+    fn a_range_does_not_wrap() {
+        let range = |start, length| Span { start, length }.range();
+        assert_eq!(range(3, 4), Some(3..7));
+        assert_eq!(range(u64::MAX, 0), Some(usize::MAX..usize::MAX));
+        assert_eq!(range(u64::MAX, 1), None);
+        assert_eq!(range(2, u64::MAX), None);
+    }
+
+    #[test]
+    fn the_widest_box_has_its_sides() {
+        let widest = Edges {
+            left: i32::MIN,
+            top: -1,
+            right: i32::MAX,
+            bottom: 1,
+        };
+        assert_eq!((widest.width(), widest.height()), (u32::MAX, 2));
     }
 }

@@ -1,6 +1,8 @@
 //! The mosaic composed through the wrapper.
 
-use czi::{compose_plain, compose_quick, Masks, PixelType, Question, Reason, Scene};
+use czi::{
+    compose, compose_plain, compose_quick, Masks, NoPlane, PixelType, Question, Reason, Scene,
+};
 use std::fs;
 use std::path::PathBuf;
 
@@ -69,4 +71,53 @@ fn a_refused_call_changes_nothing() {
         assert_eq!(refusal.reason, reason);
         assert!(target.iter().all(|b| *b == 0x5A) && map.iter().all(|b| *b == 0xA5));
     }
+}
+
+#[test]
+fn a_plane_with_memory_of_its_own_is_the_same() {
+    let file = mosaic();
+    let summary = czi::summary(&file).unwrap();
+    let question = Question::default()
+        .over(summary.edges.expect("the mosaic has a box"))
+        .background(&[7])
+        .masks(Masks::On);
+    let mut target = vec![1; question.target_length() as usize];
+    let mut map = vec![1; question.map_length() as usize];
+    compose_quick(&file, &BOX, &mut target, &mut map).unwrap();
+    let plane = compose(&file, &question).unwrap();
+    assert_eq!((plane.covered, plane.width, plane.height), (1138, 43, 28));
+    assert_eq!((&plane.target, &plane.map), (&target, &map));
+    let places = (0..28).flat_map(|row| (0..43).map(move |column| (column, row)));
+    let is_zero = |(column, row): &(u32, u32)| plane.is_covered(*column, *row) == Some(false);
+    let uncovered: Vec<(u32, u32)> = places.filter(is_zero).collect();
+    assert_eq!(uncovered.len(), 43 * 28 - 1138);
+    for (column, row) in uncovered {
+        assert_eq!(plane.pixel(column, row), Some(&[7][..]));
+    }
+}
+
+#[test]
+fn a_pixel_past_the_window_is_none() {
+    let plane = compose(&mosaic(), &BOX).unwrap();
+    let last = plane.target.last().expect("the plane has pixels");
+    assert_eq!(plane.pixel(42, 27), Some(std::slice::from_ref(last)));
+    for (column, row) in [(43, 0), (0, 28), (u32::MAX, u32::MAX)] {
+        assert_eq!(plane.pixel(column, row), None);
+        assert_eq!(plane.is_covered(column, row), None);
+    }
+}
+
+#[test]
+fn a_plane_is_refused_before_memory_is_taken() {
+    // Refused all the same, though no machine has memory for it.
+    let widest = BOX.window(0, 0, u32::MAX, u32::MAX);
+    let refused = |question| match compose(&mosaic(), &question) {
+        Err(NoPlane::Refused(refusal)) => Some(refusal.reason),
+        _ => None,
+    };
+    assert_eq!(refused(widest), Some(Reason::Window));
+    assert_eq!(refused(BOX.background(&[])), Some(Reason::AskedType));
+    let gray16 = BOX.background(&[0]).pixel_type(PixelType::Gray16);
+    assert_eq!(refused(gray16), Some(Reason::AnotherType));
+    assert_eq!(refused(Question::default()), Some(Reason::Window));
 }

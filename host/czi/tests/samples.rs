@@ -55,3 +55,37 @@ fn a_refused_file_is_refused_by_all() {
     assert_eq!(czi::common_xml(&file).unwrap_err(), refusal);
     assert_eq!(czi::judge(&[]).unwrap_err(), czi::Refusal::new(1, 0));
 }
+
+#[test]
+fn all_tiles_are_those_asked_for_one_by_one() {
+    let file = sample("mosaic.czi");
+    let tiles = czi::tiles(&file).unwrap();
+    assert_eq!(tiles.len(), 4);
+    for (entry, tile) in (0..).zip(tiles) {
+        assert_eq!(tile, czi::tile(&file, entry).unwrap());
+        let dimensions = czi::dimensions(&file, entry).unwrap();
+        let letters: String = dimensions.iter().map(|d| d.letter).collect();
+        assert_eq!(letters, "XYCSM");
+        assert_eq!(dimensions[0].start, tile.x.start);
+    }
+    let refusal = czi::Refusal::new(24, 0);
+    assert_eq!(czi::dimensions(&file, 4).unwrap_err(), refusal);
+    let refused = sample("refusal-09.czi");
+    let refusal = czi::judge(&refused).unwrap_err();
+    assert_eq!(czi::tiles(&refused).map(|_| ()), Err(refusal));
+    assert_eq!(czi::tiles(&sample("smallest.czi")).unwrap().count(), 0);
+}
+
+#[test]
+fn the_library_is_the_one_that_this_crate_is_for() {
+    assert_eq!(czi::calls::version(), czi::VERSION);
+}
+
+#[test]
+fn pixels_have_the_bytes_that_the_library_says() {
+    for number in (0..300).chain([u32::MAX]) {
+        let listed = czi::PixelType::of_number(number.into());
+        let bytes = listed.map_or(0, czi::PixelType::bytes);
+        assert_eq!(czi::calls::pixel_bytes(number) as usize, bytes, "{number}");
+    }
+}

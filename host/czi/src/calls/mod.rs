@@ -274,3 +274,15 @@ pub fn list(file: &[u8]) -> Text {
     let length = unsafe { ffi::czi_list(file.as_ptr(), file.len(), bytes.as_mut_ptr()) };
     Text { length, bytes }
 }
+
+/// The number of the library's interface, as [`VERSION`](crate::VERSION) is of this crate.
+pub fn version() -> u32 {
+    // SAFETY: it takes nothing.
+    unsafe { ffi::czi_version() }
+}
+
+/// The bytes of a pixel of that type; 0 for one that is not listed.
+pub fn pixel_bytes(pixel_type: u32) -> u32 {
+    // SAFETY: it takes a number, any number.
+    unsafe { ffi::czi_pixel_bytes(pixel_type) }
+}

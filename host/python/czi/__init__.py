@@ -1,0 +1,30 @@
+"""The proved CZI library for Python 3: judges a file, hands out its parts and records, and composes planes of it.
+
+A file is lent as its bytes: bytes, a bytearray, a memoryview, an mmap or a numpy array. It is not copied, and no call
+changes a byte of it. Any bytes and any number get an answer: what is refused raises Refused, with the number, the place and
+the words of the rule. Each call judges the whole file first.
+
+    import czi, mmap
+    with open("scan.czi", "rb") as scan:
+        file = mmap.mmap(scan.fileno(), 0, access=mmap.ACCESS_READ)
+    print(czi.summary(file).box)
+    print(czi.count(file, masks=True).covered)
+
+While a call runs nobody may change what it was lent, another thread or program neither: a mapped file that is cut meanwhile
+ends the program by SIGBUS.
+"""
+
+from ._library import VERSION
+from .counting import Count, count
+from .pixel import PixelType, pixel_bytes
+from .plane import Plane, compose
+from .reader import (attachment_data, common_attachment, common_xml, dimensions, judge, listing, summary, tile,
+                     tile_attachment, tile_metadata, tile_pixels, tiles)
+from .records import Box, Dimension, Extent, Mask, Summary, Tile
+from .refusal import Refused
+
+__all__ = [
+    "Box", "Count", "Dimension", "Extent", "Mask", "PixelType", "Plane", "Refused", "Summary", "Tile", "VERSION",
+    "attachment_data", "common_attachment", "common_xml", "compose", "count", "dimensions", "judge", "listing",
+    "pixel_bytes", "summary", "tile", "tile_attachment", "tile_metadata", "tile_pixels", "tiles",
+]

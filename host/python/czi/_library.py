@@ -1,0 +1,67 @@
+"""The shared library: where it is, and what its functions take. host/tests/interface holds this against include/czi.h."""
+
+import ctypes
+import os
+from ctypes import POINTER, c_int32, c_size_t, c_uint32, c_uint64, c_void_p
+from pathlib import Path
+
+# CZI_VERSION of the header that this was written for; the soname has it too.
+VERSION = 1
+
+# The lengths of the arrays that the library writes.
+TEXT = 192
+TILE_NUMBERS = 22
+TILE_STARTS = 3
+
+_LENT = [c_void_p, c_size_t]
+_U64 = POINTER(c_uint64)
+_I32 = POINTER(c_int32)
+_PART = [_U64, _U64, _U64]
+_COMPOSER = [
+    *_LENT, *_LENT, c_uint32, c_uint32, *_LENT, c_int32, c_int32, c_uint32, c_uint32, c_uint32, *_LENT, *_LENT, *_PART]
+
+# What each function returns and takes.
+SIGNATURES = {
+    "czi_version": (c_uint32, []),
+    "czi_pixel_bytes": (c_uint32, [c_uint32]),
+    "czi_judge": (c_uint32, [*_LENT, _U64]),
+    "czi_tile_pixels": (c_uint32, [*_LENT, c_uint64, *_PART]),
+    "czi_tile_metadata": (c_uint32, [*_LENT, c_uint64, *_PART]),
+    "czi_tile_attachment": (c_uint32, [*_LENT, c_uint64, *_PART]),
+    "czi_attachment_data": (c_uint32, [*_LENT, c_uint64, *_PART]),
+    "czi_common_xml": (c_uint32, [*_LENT, *_PART]),
+    "czi_common_attachment": (c_uint32, [*_LENT, *_PART]),
+    "czi_tile": (c_uint32, [*_LENT, c_uint64, _U64, _U64, _I32]),
+    "czi_dimension": (c_uint32, [*_LENT, c_uint64, c_uint64, _U64, _U64, _I32, _U64, POINTER(c_uint32), _U64]),
+    "czi_summary": (c_uint32, [*_LENT, *6 * [_U64], *4 * [_I32]]),
+    "czi_list": (c_uint64, [*_LENT, c_void_p]),
+    "czi_compose_plain": (c_uint32, _COMPOSER),
+    "czi_compose_quick": (c_uint32, _COMPOSER),
+}
+
+
+def _path():
+    """Where the library is: as CZI_LIBRARY says, else where ./install or host/shared put it, else as the loader finds it."""
+    if said := os.environ.get("CZI_LIBRARY"):
+        return said
+    name = f"libczi.so.{VERSION}"
+    above = Path(__file__).resolve().parents[3]
+    for folder in (above, above / "target" / "shared"):
+        if (folder / name).is_file():
+            return str(folder / name)
+    return name
+
+
+def _load():
+    path = _path()
+    library = ctypes.CDLL(path)
+    version = library.czi_version() if hasattr(library, "czi_version") else "without a number"
+    if version != VERSION:
+        raise ImportError(f"{path} has interface {version}, and this package is for {VERSION}")
+    for name, (answer, taken) in SIGNATURES.items():
+        function = getattr(library, name)
+        function.restype, function.argtypes = answer, taken
+    return library
+
+
+library = _load()

@@ -1,0 +1,116 @@
+"""Parts and records, and that they are of the very bytes that were lent."""
+
+import math
+import mmap
+import tracemalloc
+import unittest
+from array import array
+
+import czi
+from stored import SAMPLES, sample
+
+
+def mapped(name):
+    with open(SAMPLES / f"{name}.czi", "rb") as file:
+        return mmap.mmap(file.fileno(), 0, access=mmap.ACCESS_READ)
+
+
+def parts(file):
+    """All parts of the mosaic."""
+    yield czi.common_xml(file)
+    yield czi.common_attachment(file)
+    yield czi.attachment_data(file, 0)
+    for entry in range(4):
+        yield czi.tile_pixels(file, entry)
+        yield czi.tile_metadata(file, entry)
+        yield czi.tile_attachment(file, entry)
+
+
+class Parts(unittest.TestCase):
+    def test_parts_are_of_the_very_file(self):
+        for file in (sample("mosaic"), bytearray(sample("mosaic")), mapped("mosaic"), array("B", sample("mosaic"))):
+            for part in parts(file):
+                self.assertIs(part.obj, file)
+                self.assertTrue(part.readonly)
+
+    def test_a_view_of_a_file_is_not_copied_either(self):
+        file = sample("mosaic")
+        shaped = memoryview(file).cast("B", (32, len(file) // 32))
+        for part in parts(shaped):
+            self.assertIs(part.obj, file)
+        words = memoryview(file).cast("H")
+        self.assertEqual([bytes(part) for part in parts(words)], [bytes(part) for part in parts(file)])
+
+    def test_a_change_of_the_file_is_seen_in_its_part(self):
+        file = bytearray(sample("mosaic"))
+        tile, pixels = czi.tile(file, 2), czi.tile_pixels(file, 2)
+        file[tile.pixels.start] ^= 0xFF
+        self.assertEqual(pixels[0], file[tile.pixels.start])
+
+    def test_no_call_copies_the_file(self):
+        file = bytes(16 << 20)
+        tracemalloc.start()
+        for call in (czi.judge, czi.summary, czi.common_xml, czi.compose, czi.count):
+            with self.assertRaises(czi.Refused):
+                call(file)
+        peak = tracemalloc.get_traced_memory()[1]
+        tracemalloc.stop()
+        self.assertLess(peak, 1 << 20)
+
+    def test_what_is_no_buffer_is_not_lent(self):
+        with self.assertRaises(TypeError):
+            czi.judge("mosaic.czi")
+        with self.assertRaises(BufferError):
+            czi.judge(memoryview(sample("mosaic"))[::2])
+
+    def test_the_parts_of_the_mosaic(self):
+        file = sample("mosaic")
+        self.assertTrue(bytes(czi.common_xml(file)).startswith(b"<ImageDocument>"))
+        self.assertEqual(len(czi.common_attachment(file)), 0)
+        self.assertEqual(len(czi.attachment_data(file, 0)), 40)
+        self.assertEqual(bytes(czi.tile_attachment(file, 2)), b"plain bytes")
+        self.assertIn(b"CHUNKCONTAINER", bytes(czi.tile_metadata(file, 1)))
+        self.assertEqual(len(czi.common_xml(sample("smallest"))), 0)
+
+
+class Records(unittest.TestCase):
+    def test_a_tile_is_where_its_parts_are(self):
+        file = sample("mosaic")
+        tiles = czi.tiles(file)
+        self.assertEqual([(t.entry, t.x, t.y, t.m) for t in tiles], [
+            (0, (100, 24, 24), (60, 16, 16), 0), (1, (118, 24, 24), (60, 16, 16), 1),
+            (2, (100, 24, 24), (72, 16, 16), 2), (3, (119, 24, 24), (71, 16, 16), 3)])
+        for tile in tiles:
+            self.assertEqual(tile, czi.tile(file, tile.entry))
+            self.assertEqual(file[tile.pixels], czi.tile_pixels(file, tile.entry))
+            self.assertEqual(file[tile.metadata], czi.tile_metadata(file, tile.entry))
+            self.assertEqual(file[tile.attachment], czi.tile_attachment(file, tile.entry))
+            self.assertEqual(file[tile.place:tile.place + 2], b"DV")
+            self.assertFalse(tile.is_pyramid_tile)
+        self.assertEqual([t.mask is not None for t in tiles], [False, True, False, False])
+        self.assertEqual(tiles[1].mask[1:], (24, 16, 3))
+        self.assertEqual(file[tiles[1].mask.place:][:4].hex(), "67eae3cb")
+
+    def test_pyramid_tiles_and_no_m(self):
+        tiles = czi.tiles(sample("pyramids"))
+        self.assertEqual([(t.is_pyramid_tile, t.pyramid, t.m) for t in tiles], [(True, 2, None), (True, 2, None)])
+        self.assertEqual(tiles[1].x, (64, 16, 16))
+
+    def test_every_pixel_type(self):
+        tiles = czi.tiles(sample("free"))
+        self.assertEqual({t.pixel_type for t in tiles}, set(czi.PixelType))
+        for tile in tiles:
+            area = tile.x.stored * tile.y.stored
+            self.assertEqual(tile.pixels.stop - tile.pixels.start, area * tile.pixel_type.bytes)
+        self.assertEqual([czi.pixel_bytes(n) for n in range(14)], [1, 2, 4, 3, 6, 0, 0, 0, 12, 4, 8, 24, 0, 0])
+
+    def test_dimensions_keep_their_bits(self):
+        dimensions = czi.dimensions(sample("free"), 9)
+        self.assertEqual("".join(d.letter for d in dimensions), "ABCDMXTYZSR")
+        self.assertEqual(dimensions[0][1:], (-1, 1, 0x7FA00001, 1))
+        self.assertTrue(math.isnan(dimensions[0].coordinate))
+        self.assertEqual(dimensions[6].start, 2**31 - 2)
+
+
+if __name__ == "__main__":
+    unittest.main()

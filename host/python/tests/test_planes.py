@@ -1,0 +1,160 @@
+"""Planes and counts."""
+
+import unittest
+from array import array
+
+import czi
+from czi.counting import cut
+from stored import OPENSLIDE, sample
+from test_samples import refusal_of
+
+BOX = (100, 60, 43, 28)
+
+
+def openslide(name):
+    """A stored mosaic, and the plane and the map's ones that OpenSlide gave of it."""
+    file = (OPENSLIDE / f"{name}.czi").read_bytes()
+    head, sides, lines = (OPENSLIDE / f"{name}.pbm").read_bytes().split(b"\n", 2)
+    assert head == b"P4"
+    width = int(sides.split()[0])
+    stride = (width + 7) // 8
+    spare = ~((1 << -width % 8) - 1) & 0xFF
+    ones = sum(bin(b & (spare if k % stride == stride - 1 else 0xFF)).count("1") for k, b in enumerate(lines))
+    return file, (OPENSLIDE / f"{name}.raw").read_bytes(), ones
+
+
+class Planes(unittest.TestCase):
+    def test_planes_are_those_that_openslide_gave(self):
+        seen = 0
+        for line in (OPENSLIDE / "cases.txt").read_text().splitlines():
+            name, kind, *window = line.split()
+            window = [int(number) for number in window]
+            file, wanted, ones = openslide(name)
+            for composer in ("plain", "quick"):
+                plane = czi.compose(file, window, scene="any", composer=composer)
+                # OpenSlide gives the high byte of each channel.
+                got = plane.target[1::2] if kind == "bgr48" else plane.target
+                self.assertEqual(got, wanted, name)
+                self.assertEqual(plane.covered, ones, name)
+            self.assertEqual(czi.count(file, window, scene="any", memory=500).covered, ones, name)
+            seen += 1
+        self.assertGreaterEqual(seen, 12)
+
+    def test_the_mosaic(self):
+        file = sample("mosaic")
+        plain, quick = (czi.compose(file, masks=True, composer=name) for name in ("plain", "quick"))
+        self.assertEqual((plain.covered, plain.stored), (1138, 1500))
+        self.assertEqual((quick.covered, quick.stored), (1138, 1138))
+        self.assertEqual((plain.target, plain.map), (quick.target, quick.map))
+        self.assertEqual((quick.window, quick.pixel_type), (BOX, czi.PixelType.Gray8))
+        # Without masks: the pixels in one of the four rectangles.
+        self.assertEqual(czi.compose(file).covered, 1174)
+
+    def test_what_is_selected(self):
+        file, _, ones = openslide("scenes")
+        first, second, any_scene = (czi.compose(file, scene=scene).covered for scene in (0, 1, "any"))
+        self.assertEqual(first + second, ones)
+        self.assertEqual(any_scene, ones)
+        self.assertEqual(czi.compose(file, starts={"C": 1}, scene="any").covered, 0)
+        self.assertEqual(czi.compose(file, starts={"C": 0, "Z": 0}).covered, first)
+        for wrong in ({"S": 1}, {"X": 0}, {"M": 0}, {"c": 0}, {"CZ": 0}, {"": 0}):
+            with self.assertRaises(ValueError):
+                czi.compose(file, starts=wrong)
+
+    def test_background_and_lent_buffers(self):
+        file = sample("mosaic")
+        target, map_ = array("B", b"\x5A" * (43 * 28 + 9)), bytearray(b"\xA5" * 160)
+        plane = czi.compose(file, masks=True, background=b"\x07", target=target, map=map_)
+        self.assertIs(plane.target, target)
+        self.assertIs(plane.map, map_)
+        self.assertEqual(target[43 * 28:].tobytes(), b"\x5A" * 9)
+        self.assertEqual(map_[151:], b"\xA5" * 9)
+        uncovered = [target[k] for k in range(43 * 28) if not map_[k // 8] >> 7 - k % 8 & 1]
+        self.assertEqual(uncovered, [7] * (43 * 28 - 1138))
+        self.assertEqual(plane.target[:43 * 28].tobytes(),
+                         czi.compose(file, masks=True, background=b"\x07", composer="plain").target)
+
+    def test_a_refused_question_changes_nothing(self):
+        file = sample("mosaic")
+        first = czi.tile(file, 0).place
+        for wanted, window, how in [
+                ((20, 0), (100, 60, 0, 28), {}),
+                ((20, 0), (2**31 - 1, 0, 1, 1), {}),
+                ((21, 0), BOX, {"pixel_type": 12}),
+                ((21, 0), BOX, {"background": b"\0\0"}),
+                ((22, 0), (100, 60, 43, 29), {}),
+                ((23, first), (100, 60, 20, 28), {"pixel_type": 1})]:
+            target, map_ = bytearray(b"\x5A" * 1204), bytearray(b"\xA5" * 151)
+            for composer in ("plain", "quick"):
+                refused = refusal_of(czi.compose, file, window, target=target, map=map_, composer=composer, **how)
+                self.assertEqual(refused, wanted)
+                self.assertEqual((set(target), set(map_)), ({0x5A}, {0xA5}))
+            # Without buffers there is nothing that is too short.
+            if wanted[0] != 22:
+                self.assertEqual(refusal_of(czi.compose, file, window, **how), wanted)
+
+    def test_what_must_not_be_written(self):
+        file = bytearray(sample("mosaic"))
+        before, both = bytes(file), bytearray(1204 + 150)
+        with self.assertRaises(ValueError):
+            czi.compose(file, BOX, target=file)
+        with self.assertRaises(ValueError):
+            czi.compose(file, BOX, map=memoryview(file)[100:400])
+        with self.assertRaises(ValueError):
+            czi.compose(before, BOX, target=memoryview(both)[:1204], map=memoryview(both)[1203:])
+        with self.assertRaises(BufferError):
+            czi.compose(before, BOX, target=bytes(1204))
+        self.assertEqual((file, both), (before, bytes(1204 + 150)))
+
+    def test_one_may_begin_where_the_other_ends(self):
+        both = memoryview(bytearray(151 + 1204 + 151))
+        plane, behind = both[151:151 + 1204], both[151 + 1204:]
+        self.assertEqual(czi.compose(sample("mosaic"), BOX, target=plane, map=behind).covered, 1174)
+        self.assertEqual(czi.compose(sample("mosaic"), BOX, target=plane, map=both[:151]).covered, 1174)
+        self.assertEqual(both[:151], behind)
+
+    def test_a_window_is_refused_before_memory_is_taken(self):
+        for window, how, wanted in [((0, 0, 2**32 - 1, 2**32 - 1), {}, (20, 0)),
+                                    ((0, 0, 65536, 65536), {"pixel_type": 11, "background": b""}, (21, 0))]:
+            self.assertEqual(refusal_of(czi.compose, sample("mosaic"), window, **how), wanted)
+
+    def test_what_the_file_does_not_say(self):
+        with self.assertRaisesRegex(ValueError, "Gray8 and Gray16"):
+            czi.compose(sample("free"), (0, 0, 1, 1))
+        with self.assertRaisesRegex(ValueError, "window"):
+            czi.compose(sample("pyramids"))
+        with self.assertRaisesRegex(ValueError, "no pixel type"):
+            czi.compose(sample("smallest"), (0, 0, 1, 1))
+
+
+class Counts(unittest.TestCase):
+    def test_a_cut_window_adds_up(self):
+        file = sample("mosaic")
+        for memory, windows in [(512 << 20, 1), (1355, 1), (1354, 2), (100, 14), (1, 28)]:
+            self.assertEqual(czi.count(file, masks=True, memory=memory), (1138, 43 * 28, windows), memory)
+
+    def test_sides_over_65536(self):
+        file = sample("mosaic")
+        self.assertEqual(czi.count(file, (-65500, 0, 70000, 100)), (1174, 7_000_000, 2))
+        self.assertEqual(czi.count(file, (100, -65473, 43, 65600)), (1174, 43 * 65600, 2))
+
+    def test_the_windows_tile_the_window(self):
+        for width, height, pixel, memory in [(7, 5, 3, 40), (65537, 2, 1, 1 << 20), (3, 65537, 1, 1 << 20), (1, 1, 24, 0)]:
+            places = set()
+            for left, top, wide, high in cut(-3, 4, width, height, pixel, memory):
+                self.assertTrue(1 <= wide <= 65536 and 1 <= high <= 65536)
+                self.assertTrue(high == 1 or wide * high * pixel + (wide * high + 7) // 8 <= memory)
+                new = {(x, y) for x in range(left, left + wide) for y in range(top, top + high)}
+                self.assertFalse(new & places)
+                places |= new
+            self.assertEqual(len(places), width * height)
+            self.assertEqual((min(places), max(places)), ((-3, 4), (width - 4, height + 3)))
+
+    def test_nothing_to_count(self):
+        self.assertEqual(czi.count(sample("pyramids")), (0, 0, 0))
+        self.assertEqual(refusal_of(czi.count, sample("mosaic"), (100, 60, 0, 28)), (20, 0))
+        self.assertEqual(refusal_of(czi.count, sample("mosaic"), (2**31 - 2, 0, 70000, 1)), (20, 0))
+
+
+if __name__ == "__main__":
+    unittest.main()

@@ -1,0 +1,73 @@
+/* What czi.h includes beside the library's functions, as plain C: refusals and pixel types in words, and CZI_NONE, a
+ * pointer for what has no length. Nothing of this is in the library. */
+#ifndef CZI_WORDS_H
+#define CZI_WORDS_H
+
+#include <stdint.h>
+
+/* A line for a refusal's number. */
+static inline const char *czi_refusal_words(uint32_t number) {
+    switch (number) {
+    case 0: return "not refused";
+    case 1: return "length 0, not a multiple of 32, or above 2^40";
+    case 2: return "unknown name";
+    case 3: return "AllocatedSize negative or not a multiple of 32; UsedSize negative or larger; end past the file";
+    case 4: return "more than 8,192 segments";
+    case 5: return "first isn't the file segment, a later one is, or its room is under 80";
+    case 6: return "Major not 1";
+    case 7: return "a FilePart not 0";
+    case 8: return "UpdatePending not 0";
+    case 9: return "a position names no walked segment of its kind";
+    case 10: return "a directory's fixed part or entries don't fit its room; EntryCount negative or over 4,096; "
+                    "the metadata segment's sizes negative, or 256 plus both over its room";
+    case 11: return "entry not well formed";
+    case 12: return "pixel type not listed";
+    case 13: return "compression not 0";
+    case 14: return "entry names no walked segment of its kind";
+    case 15: return "fixed part doesn't fit the room, or the copy differs";
+    case 16: return "sizes negative, don't fit, or DataSize wrong";
+    case 17: return "chunk not as the rules say";
+    case 18: return "mask not as the rules say";
+    case 20: return "window side not 1 to 65,536, or right or bottom edge above 2,147,483,647";
+    case 21: return "asked type not listed, or background not one pixel long";
+    case 22: return "target or map too short";
+    case 23: return "a selected tile that meets the window has another type";
+    case 24: return "no entry of that number, counted from 0";
+    case 30: return "listing only: input over 65,536 bytes";
+    default: return "there is no such refusal";
+    }
+}
+
+/* The name of a pixel type. */
+static inline const char *czi_pixel_type_name(uint32_t pixel_type) {
+    switch (pixel_type) {
+    case 0: return "Gray8";
+    case 1: return "Gray16";
+    case 2: return "GrayFloat";
+    case 3: return "Bgr24";
+    case 4: return "Bgr48";
+    case 8: return "BgrFloat";
+    case 9: return "Bgra32";
+    case 10: return "GrayComplex";
+    case 11: return "BgrComplex";
+    default: return "not listed";
+    }
+}
+
+/* A pointer that is not NULL, to nothing that a call reads or writes. */
+static inline void *czi_none(void) {
+    static uint64_t nothing;
+    return &nothing;
+}
+
+/* It goes wherever a pointer is asked for with a length of 0: a file, starts, a target, a map. */
+#ifdef __cplusplus
+struct czi_nothing {
+    template <class T> operator T *() const { return static_cast<T *>(czi_none()); }
+};
+#define CZI_NONE (czi_nothing())
+#else
+#define CZI_NONE (czi_none())
+#endif
+
+#endif
