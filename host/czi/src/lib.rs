@@ -24,7 +24,7 @@ mod refusal;
 
 pub use calls::Counted;
 pub use compose::{compose_plain, compose_quick, Masks, Question, Scene};
-pub use mapping::{map, zeros, Mapping};
+pub use mapping::{map, map_file, read, zeros, Mapping};
 pub use pixel::PixelType;
 pub use reader::{
     attachment_data, common_attachment, common_xml, dimension, judge, list, summary, tile,
