@@ -79,11 +79,7 @@ impl Sink {
         match self {
             Sink::Nothing => {}
             Sink::Memory(room) => {
-                if room.capacity() - room.len() < bytes.len() {
-                    let what = format!("there is no memory for {} bytes more", bytes.len());
-                    room.try_reserve(bytes.len())
-                        .map_err(|_| Failure::Other(what))?;
-                }
+                // Room for all of it was taken at the beginning.
                 room.extend_from_slice(bytes);
             }
             Sink::File(staged) => staged.write(bytes)?,

@@ -17,14 +17,15 @@ usage: czi judge FILE      is the file accepted?
        czi help COMMAND    more about a command
        czi --version
 
-FILE may be - for standard input. A value follows its option as the next word or
+FILE may be - for standard input. A plain file is mapped, so it may be larger than
+memory; a pipe is read into memory. A value follows its option as the next word or
 behind =, and what follows a single -- is no option.
 
 A file that is there is replaced only with --force, never where its mode has no
 write bit, and never where it is the file that is read. Files are written under
 temporary names and then put in place, all or none: where the run fails, or is
 ended by SIGINT, SIGTERM, SIGHUP or SIGQUIT, what was there stands as it was.
-(Ended by SIGKILL, a file named .czi-NUMBER.part may be left in the folder.)
+(SIGKILL may leave files named .czi-PID-N.part or .old in the output's folder.)
 A file that is changed while it is read gives no answer.
 
 exit codes: 0 done; 2 refused: the refusal's number, its place as an offset in
@@ -116,7 +117,8 @@ const QUESTION: &str =
                      grayfloat (2), bgr24 (3), bgr48 (4), bgrfloat (8),
                      bgra32 (9), graycomplex (10), bgrcomplex (11), in any case.
                      Unless given that of the selected tiles that meet the
-                     window; two types among them are refused as 23
+                     window, or of the first tile where none does; two types
+                     among them are refused as 23
   --start C=1        tiles that start at 1 along C, for any letter but X, Y and
                      M; 0 unless given; may be given once for each letter
   --scene any|N      all scenes, or the one that starts at N; the same as

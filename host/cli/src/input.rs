@@ -2,9 +2,9 @@
 
 use crate::failure::Failure;
 use crate::identity::{Identity, State};
-use crate::{streams, system};
+use crate::{memory, streams, system};
 use std::fs::{self, File, Metadata};
-use std::io::{Read, Seek};
+use std::io::Seek;
 use std::ops::Deref;
 use std::path::{Path, PathBuf};
 use std::time::Duration;
@@ -104,9 +104,9 @@ impl Input {
             let mapping = system::map(&self.file, &cut.line());
             return mapping.map(Lent::Mapped).map_err(failed);
         }
-        let mut bytes = Vec::new();
-        self.file.read_to_end(&mut bytes).map_err(failed)?;
-        Ok(Lent::Read(bytes))
+        let read = memory::read_all(&mut self.file);
+        read.map(Lent::Read)
+            .map_err(|what| Failure::of(&self.path, what))
     }
 
     /// Compares the open file, and the one of that name, with the start.

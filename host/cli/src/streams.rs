@@ -67,10 +67,14 @@ pub fn apart_from(files: &[Identity]) -> Result<(), Failure> {
     let failure = |what: &str| Failure::Other(what.to_string());
     if hits(error()) {
         MUTE.store(true, SeqCst);
-        return Err(failure("standard error is one of the files"));
+        return Err(failure(
+            "standard error goes into a file that is read or replaced",
+        ));
     }
     match hits(output()) {
-        true => Err(failure("standard output is one of the files")),
+        true => Err(failure(
+            "standard output goes into a file that is read or replaced",
+        )),
         false => Ok(()),
     }
 }

@@ -6,9 +6,7 @@ mod support;
 use std::os::unix::process::ExitStatusExt;
 use std::process::{Command, Stdio};
 use std::time::{Duration, Instant};
-use support::{kill, sample, until, waiting, Folder, CZI, HUP, INT, SIDE, TERM};
-
-const SIGNALS: [i32; 3] = [HUP, INT, TERM];
+use support::{kill, sample, signals, until, waiting, Folder, CZI, HUP, SIDE};
 
 fn compose(file: &str, folder: &Folder, window: &str) -> Command {
     let mut command = Command::new(CZI);
@@ -36,19 +34,20 @@ fn while_a_large_plane_is_written() {
     let mut whole = compose(&file, &folder, "0,0,6000,4000").spawn().unwrap();
     assert!(whole.wait().unwrap().success());
     let length = begun.elapsed().max(Duration::from_millis(20));
+    let signals = signals();
     let mut ended = 0;
-    for k in 0..40 {
+    for (k, signal) in (0..40).zip(signals.iter().cycle()) {
         folder.write("map", b"old map");
         let _ = std::fs::remove_file(folder.path("out"));
         let mut child = compose(&file, &folder, "0,0,6000,4000").spawn().unwrap();
         std::thread::sleep(length * k / 40);
-        kill(&child, SIGNALS[k as usize % 3]);
+        kill(&child, *signal);
         let status = child.wait().unwrap();
         if status.success() {
             assert_eq!(folder.names(), ["map", "out"]);
             continue;
         }
-        assert_eq!(status.signal(), Some(SIGNALS[k as usize % 3]), "{status}");
+        assert_eq!(status.signal(), Some(*signal), "{status}");
         ended += 1;
         if folder.names() == ["map"] {
             assert_eq!(folder.read("map"), b"old map", "at {k}");
@@ -68,13 +67,13 @@ fn while_the_files_are_put_in_place() {
     let folder = Folder::new("ended-small");
     let window = format!("0,0,{SIDE},{SIDE}");
     let mut outcomes = [0; 2];
-    for k in 0..250 {
+    for (k, signal) in (0..250).zip(signals().iter().cycle()) {
         folder.write("out", b"old plane");
         folder.write("map", b"old map");
         let mut running = waiting(&mut compose("-", &folder, &window));
         running.go_on();
         wait_for(Duration::from_micros(20 * k));
-        kill(&running.child, SIGNALS[k as usize % 3]);
+        kill(&running.child, *signal);
         running.child.wait().unwrap();
         assert_eq!(folder.names(), ["map", "out"], "at {k}");
         let is_old = (
@@ -91,7 +90,7 @@ fn while_the_files_are_put_in_place() {
 #[test]
 fn after_the_file_was_put_in_place() {
     let folder = Folder::new("ended-after");
-    for signal in SIGNALS {
+    for signal in signals() {
         for old in [Some(b"old plane"), None] {
             let out = folder.path("out");
             match old {

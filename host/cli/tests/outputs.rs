@@ -139,7 +139,11 @@ fn streams_that_are_files_are_outputs_too() {
         "czi count - <\"$1\" >>\"$1\"",
     ] {
         let output = shell(line, &[&file]);
-        is_failure(&output, 1, "standard output is one of the files");
+        is_failure(
+            &output,
+            1,
+            "standard output goes into a file that is read or replaced",
+        );
         assert_eq!(folder.read("in.czi"), bytes, "{line}");
     }
     // Nothing can be said, and nothing is written into the scan.
@@ -148,7 +152,11 @@ fn streams_that_are_files_are_outputs_too() {
     assert_eq!(folder.read("in.czi"), bytes);
     let line = "czi compose \"$1\" --out \"$2\" --force >>\"$2\"";
     let output = shell(line, &[&file, &out]);
-    is_failure(&output, 1, "standard output is one of the files");
+    is_failure(
+        &output,
+        1,
+        "standard output goes into a file that is read or replaced",
+    );
     assert_eq!(folder.read("out"), b"old");
     // A log of both streams is nothing special.
     let output = shell("czi info \"$1\" >\"$2\" 2>&1", &[&file, &log]);

@@ -180,5 +180,16 @@ pub fn kill(child: &Child, signal: i32) {
 }
 
 pub const HUP: i32 = 1;
-pub const INT: i32 = 2;
-pub const TERM: i32 = 15;
+const INT: i32 = 2;
+const TERM: i32 = 15;
+
+/// The signals by which a person ends a run, but those that this test's own
+/// caller ignores, as a shell does for what it runs in the background: a run
+/// ignores them too.
+pub fn signals() -> Vec<i32> {
+    let status = fs::read_to_string("/proc/self/status").expect("Linux");
+    let ignored = status.lines().find_map(|line| line.strip_prefix("SigIgn:"));
+    let ignored = u64::from_str_radix(ignored.unwrap_or("0").trim(), 16).expect("bits");
+    let heard = |signal: &i32| ignored >> (signal - 1) & 1 == 0;
+    [TERM, INT, HUP].into_iter().filter(heard).collect()
+}
