@@ -23,12 +23,11 @@ impl Failure {
         }
     }
 
-    /// The one line that is said, whatever bytes a name has.
+    /// The one line that is said, whatever characters a name has.
     pub fn line(&self) -> String {
-        format!(
-            "czi: {}\n",
-            self.to_string().replace(['\n', '\r', '\0'], "?")
-        )
+        let text = self.to_string();
+        let shown = text.chars().map(|c| if c.is_control() { '?' } else { c });
+        format!("czi: {}\n", shown.collect::<String>())
     }
 
     /// Something is wrong with that file.

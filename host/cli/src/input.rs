@@ -15,7 +15,9 @@ const TICK: Duration = Duration::from_millis(20);
 /// An open file, not yet read. A path of `-` is standard input.
 pub struct Input {
     file: File,
+    /// Its path, or words for standard input.
     path: PathBuf,
+    is_standard: bool,
     /// The state before, of a plain file.
     before: Option<State>,
 }
@@ -39,10 +41,6 @@ impl Deref for Lent {
     }
 }
 
-fn is_standard(path: &Path) -> bool {
-    path.as_os_str() == "-"
-}
-
 /// What is known of the file. Times go by ticks: of a file that was written just
 /// now, a change within the same tick would not be seen, so that tick is let pass.
 fn settled(file: &File) -> std::io::Result<Metadata> {
@@ -60,14 +58,19 @@ fn settled(file: &File) -> std::io::Result<Metadata> {
 impl Input {
     /// Opens it. Output and error must not go into it.
     pub fn open(path: &Path) -> Result<Input, Failure> {
-        let file = match is_standard(path) {
-            true => streams::input()?,
-            false => File::open(path).map_err(|error| Failure::of(path, error))?,
+        let is_standard = path.as_os_str() == "-";
+        let (file, path) = match is_standard {
+            true => (streams::input()?, Path::new("standard input")),
+            false => (
+                File::open(path).map_err(|error| Failure::of(path, error))?,
+                path,
+            ),
         };
         let about = settled(&file).map_err(|error| Failure::of(path, error))?;
         let input = Input {
             file,
             path: path.to_path_buf(),
+            is_standard,
             before: about.is_file().then(|| State::of(&about)),
         };
         streams::apart_from(&input.identity())?;
@@ -95,7 +98,7 @@ impl Input {
         let path = &self.path;
         let failed = |error| Failure::of(path, error);
         // Standard input is read from where it stands.
-        let at_start = !is_standard(path) || self.file.stream_position().is_ok_and(|at| at == 0);
+        let at_start = !self.is_standard || self.file.stream_position().is_ok_and(|at| at == 0);
         if self.before.is_some() && at_start {
             let cut = Failure::of(
                 path,
@@ -115,7 +118,7 @@ impl Input {
             return Ok(());
         };
         let open = self.file.metadata();
-        let named = match is_standard(&self.path) {
+        let named = match self.is_standard {
             true => self.file.metadata(),
             false => fs::metadata(&self.path),
         };

@@ -4,7 +4,7 @@ use crate::failure::Failure;
 use crate::identity::Identity;
 use crate::input::Input;
 use crate::streams;
-use std::fs::{self, Metadata};
+use std::fs::{self, Metadata, OpenOptions};
 use std::io::ErrorKind;
 use std::os::unix::ffi::OsStrExt;
 use std::os::unix::fs::PermissionsExt;
@@ -64,6 +64,11 @@ impl Output {
         match fs::metadata(path) {
             Ok(about) => {
                 may_be_replaced(&about, force).map_err(other)?;
+                if force {
+                    // Who may not write it does not replace it either.
+                    let written = OpenOptions::new().write(true).open(path);
+                    drop(written.map_err(failed)?);
+                }
                 Ok(Output {
                     given: path.to_path_buf(),
                     place: fs::canonicalize(path).map_err(failed)?,

@@ -7,7 +7,7 @@
 use crate::failure::Failure;
 use crate::identity::Identity;
 use crate::outputs::Output;
-use crate::system::{undisturbed, Undo};
+use crate::system::{undisturbed, Name, Undo};
 use std::fs::{self, File, Permissions};
 use std::io::{self, ErrorKind, Write};
 use std::os::unix::fs::PermissionsExt;
@@ -18,6 +18,8 @@ pub struct Staged {
     output: Output,
     file: File,
     beside: PathBuf,
+    /// Its place, for the table.
+    place: Name,
     undo: Undo,
 }
 
@@ -53,9 +55,11 @@ impl Staged {
     pub fn begin(output: &Output) -> Result<Staged, Failure> {
         let failed = |error| Failure::of(&output.given, error);
         let make = |beside: &Path| {
+            let name = Name::new(beside)?;
             let file = File::create_new(beside)?;
-            Ok((file, Undo::remove(beside)?))
+            Ok((file, Undo::remove(name)?))
         };
+        let place = Name::new(&output.place).map_err(failed)?;
         let made = undisturbed(|| beside(&output.place, "part", make));
         let (beside, (file, undo)) = made.map_err(failed)?;
         if output.old.is_some() {
@@ -66,6 +70,7 @@ impl Staged {
             output: output.clone(),
             file,
             beside,
+            place,
             undo,
         })
     }
@@ -88,6 +93,8 @@ pub fn put_in_place(staged: Vec<Staged>) -> Result<Placed, Failure> {
     staged.iter().try_for_each(Staged::sync)?;
     undisturbed(|| {
         let mut placed = Placed::default();
+        placed.undo.reserve(2 * staged.len());
+        placed.names.reserve(staged.len());
         for file in staged {
             let given = file.output.given.clone();
             let done = match file.output.old {
@@ -106,7 +113,7 @@ impl Placed {
         let place = &file.output.place;
         match fs::hard_link(&file.beside, place) {
             Ok(()) => {
-                self.undo.push(Undo::remove(place)?);
+                self.undo.push(Undo::remove(file.place)?);
                 self.undo.push(file.undo);
                 self.names.push(file.beside);
                 Ok(())
@@ -116,7 +123,7 @@ impl Placed {
             Err(_) if fs::symlink_metadata(place).is_ok() => Err(ErrorKind::AlreadyExists.into()),
             Err(_) => {
                 fs::rename(&file.beside, place)?;
-                self.undo.push(Undo::remove(place)?);
+                self.undo.push(Undo::remove(file.place)?);
                 file.undo.keep();
                 Ok(())
             }
@@ -130,13 +137,16 @@ impl Placed {
         if !there.is_file() || Identity::of(&there) != old {
             return Err(io::Error::other("another file came to be there"));
         }
-        let link = |beside: &Path| fs::hard_link(place, beside);
+        let link = |beside: &Path| {
+            let name = Name::new(beside)?;
+            fs::hard_link(place, beside)?;
+            Ok((name, Undo::remove(name)?))
+        };
         let (second, undo) = match beside(place, "old", link) {
-            Ok((second, ())) => {
-                let undo = Undo::remove(&second)?;
+            Ok((second, (name, undo))) => {
                 fs::rename(&file.beside, place)?;
                 undo.keep();
-                (second.clone(), Undo::rename(&second, place)?)
+                (second, Undo::rename(name, file.place)?)
             }
             // A disk without second names, or a file of another user.
             Err(_) => {
@@ -144,10 +154,11 @@ impl Placed {
                     if fs::symlink_metadata(beside).is_ok() {
                         return Err(ErrorKind::AlreadyExists.into());
                     }
-                    fs::rename(place, beside)
+                    let name = Name::new(beside)?;
+                    fs::rename(place, beside)?;
+                    Undo::rename(name, file.place)
                 };
-                let (second, ()) = beside(place, "old", away)?;
-                let undo = Undo::rename(&second, place)?;
+                let (second, undo) = beside(place, "old", away)?;
                 fs::rename(&file.beside, place)?;
                 (second, undo)
             }

@@ -1,13 +1,14 @@
-//! What std does not have: signals, which streams were closed at the start, and
-//! mapped files. All unsafe code of the command is here.
+//! What std does not have: signals, memory that is short, which streams were
+//! closed at the start, and mapped files. All unsafe code of the command is here.
 //!
-//! A signal that ends the run first undoes what was begun. The names for that
-//! stand in a fixed table of atomics, since a handler may neither allocate nor
-//! wait for a lock.
+//! What ends the run first undoes what was begun. The names for that stand in a
+//! fixed table of atomics, since a signal handler may neither allocate nor wait
+//! for a lock.
 
 #![allow(unsafe_code)]
 
-use std::ffi::{c_char, c_int, c_void, CString};
+use std::alloc::{GlobalAlloc, Layout, System};
+use std::ffi::{c_char, c_int, c_void, CStr, CString};
 use std::fs::File;
 use std::io;
 use std::os::unix::ffi::OsStrExt;
@@ -18,7 +19,6 @@ use std::sync::atomic::{AtomicBool, AtomicPtr, Ordering::SeqCst};
 const SIGHUP: c_int = 1;
 const SIGINT: c_int = 2;
 const SIGQUIT: c_int = 3;
-const SIGABRT: c_int = 6;
 const SIGBUS: c_int = 7;
 const SIGSEGV: c_int = 11;
 const SIGTERM: c_int = 15;
@@ -46,7 +46,16 @@ struct Action {
     restorer: usize,
 }
 
+/// stack_t of Linux.
+#[repr(C)]
+struct Stack {
+    memory: *mut c_void,
+    flags: c_int,
+    size: usize,
+}
+
 extern "C" {
+    fn sigaltstack(new: *const Stack, old: *mut Stack) -> c_int;
     fn sigaction(signal: c_int, new: *const Action, old: *mut Action) -> c_int;
     fn sigemptyset(set: *mut Signals) -> c_int;
     fn sigaddset(set: *mut Signals, signal: c_int) -> c_int;
@@ -56,26 +65,42 @@ extern "C" {
     fn unlink(path: *const c_char) -> c_int;
     fn rename(old: *const c_char, new: *const c_char) -> c_int;
     fn write(file: c_int, bytes: *const c_void, length: usize) -> isize;
-    fn strlen(text: *const c_char) -> usize;
     fn fcntl(file: c_int, command: c_int, ...) -> c_int;
     fn _exit(code: c_int) -> !;
 }
 
-// ---- Streams.
+// ---- Before main.
 
-static OPEN: [AtomicBool; 3] = [const { AtomicBool::new(false) }; 3];
+/// std opens /dev/null for a closed stream before `main`, so this looks before
+/// that. It also asks for memory for other stacks, and panics where there is
+/// none, unless somebody else has set the handlers of SIGSEGV and SIGBUS.
+#[used]
+#[link_section = ".init_array"]
+static BEFORE_MAIN: extern "C" fn() = before_main;
 
-extern "C" fn note_open_streams() {
+extern "C" fn before_main() {
     for (file, open) in (0..).zip(&OPEN) {
         // SAFETY: asks about a number, whatever stands behind it.
         open.store(unsafe { fcntl(file, F_GETFD) } != -1, SeqCst);
     }
+    let stack = Stack {
+        memory: (&raw mut OTHER_STACK).cast(),
+        flags: 0,
+        size: OTHER_STACK_SIZE,
+    };
+    // SAFETY: nobody else uses that memory.
+    unsafe { sigaltstack(&stack, null_mut()) };
+    set_handler(SIGSEGV, no_stack as extern "C" fn(c_int) as usize);
+    set_handler(SIGBUS, page_is_gone as extern "C" fn(c_int) as usize);
 }
 
-/// std opens /dev/null for a closed stream before `main`; this looks before that.
-#[used]
-#[link_section = ".init_array"]
-static BEFORE_MAIN: extern "C" fn() = note_open_streams;
+const OTHER_STACK_SIZE: usize = 1 << 16;
+
+/// What the handlers run on in the main thread, whose own stack may be full.
+/// Other threads have all of theirs from the start.
+static mut OTHER_STACK: [u8; OTHER_STACK_SIZE] = [0; OTHER_STACK_SIZE];
+
+static OPEN: [AtomicBool; 3] = [const { AtomicBool::new(false) }; 3];
 
 /// Was standard input (0), output (1) or error (2) open when the run began?
 pub fn was_open(stream: usize) -> bool {
@@ -123,20 +148,32 @@ fn undo_all() {
 #[must_use]
 pub struct Undo(&'static Slot);
 
+/// A path as the table has it. It is made beforehand: nothing may fail between
+/// what is done and the note of how to undo it.
+#[derive(Clone, Copy)]
+pub struct Name(*mut c_char);
+
+impl Name {
+    /// That of a path; kept for good.
+    pub fn new(path: &Path) -> io::Result<Name> {
+        Ok(Name(CString::new(path.as_os_str().as_bytes())?.into_raw()))
+    }
+}
+
 impl Undo {
     /// Removes the file.
-    pub fn remove(path: &Path) -> io::Result<Undo> {
-        Undo::new(name(path)?, null_mut())
+    pub fn remove(name: Name) -> io::Result<Undo> {
+        Undo::new(name.0, null_mut())
     }
 
     /// Gives the file its old name again.
-    pub fn rename(from: &Path, to: &Path) -> io::Result<Undo> {
-        Undo::new(name(from)?, name(to)?)
+    pub fn rename(from: Name, to: Name) -> io::Result<Undo> {
+        Undo::new(from.0, to.0)
     }
 
     fn new(from: *mut c_char, to: *mut c_char) -> io::Result<Undo> {
         let free = TABLE.iter().find(|s| s.from.load(SeqCst).is_null());
-        let slot = free.ok_or_else(|| io::Error::other("too many outputs"))?;
+        let slot = free.ok_or(io::ErrorKind::OutOfMemory)?;
         slot.to.store(to, SeqCst);
         slot.from.store(from, SeqCst);
         Ok(Undo(slot))
@@ -152,11 +189,6 @@ impl Drop for Undo {
     fn drop(&mut self) {
         undisturbed(|| self.0.undo());
     }
-}
-
-/// The path for the table, as C has it.
-fn name(path: &Path) -> io::Result<*mut c_char> {
-    Ok(CString::new(path.as_os_str().as_bytes())?.into_raw())
 }
 
 // ---- Signals.
@@ -210,36 +242,32 @@ extern "C" fn ended_by(signal: c_int) {
 
 /// A page of the mapped file is not there: one line, exit code 1.
 extern "C" fn page_is_gone(_: c_int) {
-    first_or_wait();
-    undo_all();
     let line = UNREADABLE.load(SeqCst);
-    // SAFETY: a line that is not null ends in a zero byte and is never freed.
-    unsafe {
-        if !line.is_null() {
-            write(2, line.cast(), strlen(line));
-        }
-        _exit(1)
+    match line.is_null() {
+        true => end(b"czi: a page of memory can't be read\n"),
+        // SAFETY: the line ends in a zero byte and is never freed.
+        false => end(unsafe { CStr::from_ptr(line) }.to_bytes()),
     }
 }
 
 /// The stack can't grow: one line, exit code 1.
 extern "C" fn no_stack(_: c_int) {
+    end(b"czi: there is no memory for the stack, or czi has a fault\n")
+}
+
+/// Undoes what was begun, says the line and ends with exit code 1. May be called
+/// by a handler.
+fn end(line: &[u8]) -> ! {
+    // A handler that came now would wait for this one.
+    // SAFETY: an object of its type.
+    unsafe { pthread_sigmask(SIG_BLOCK, &set_of(&ENDING), null_mut()) };
     first_or_wait();
     undo_all();
-    let line = b"czi: there is no memory for the stack, or czi has a fault\n";
-    // SAFETY: so many bytes; then ends the run.
+    // SAFETY: so many bytes; then the run ends.
     unsafe {
         write(2, line.as_ptr().cast(), line.len());
         _exit(1)
     }
-}
-
-/// std has said that memory is short, and aborts: exit code 1.
-extern "C" fn aborted(_: c_int) {
-    first_or_wait();
-    undo_all();
-    // SAFETY: ends the run.
-    unsafe { _exit(1) }
 }
 
 fn set_handler(signal: c_int, handler: usize) {
@@ -266,7 +294,7 @@ fn is_ignored(signal: c_int) -> bool {
     action.handler == SIG_IGN
 }
 
-/// Sets the handlers. A signal that is ignored stays so, as for `nohup`; a full
+/// Sets the other handlers. A signal that is ignored stays so, as for `nohup`; a full
 /// disk and a limit on file sizes are errors of `write`.
 pub fn prepare() {
     for signal in ENDING {
@@ -274,10 +302,42 @@ pub fn prepare() {
             set_handler(signal, ended_by as extern "C" fn(c_int) as usize);
         }
     }
-    set_handler(SIGBUS, page_is_gone as extern "C" fn(c_int) as usize);
-    set_handler(SIGSEGV, no_stack as extern "C" fn(c_int) as usize);
-    set_handler(SIGABRT, aborted as extern "C" fn(c_int) as usize);
     set_handler(SIGXFSZ, SIG_IGN);
+}
+
+// ---- Memory.
+
+/// The system's allocator; where it has nothing left the run ends, with one line
+/// and exit code 1, while std would abort.
+struct Memory;
+
+#[global_allocator]
+static MEMORY: Memory = Memory;
+
+fn there(memory: *mut u8) -> *mut u8 {
+    match memory.is_null() {
+        true => end(b"czi: there is no memory left\n"),
+        false => memory,
+    }
+}
+
+// SAFETY: what the system gives and takes is passed on unchanged.
+unsafe impl GlobalAlloc for Memory {
+    unsafe fn alloc(&self, layout: Layout) -> *mut u8 {
+        there(unsafe { System.alloc(layout) })
+    }
+
+    unsafe fn alloc_zeroed(&self, layout: Layout) -> *mut u8 {
+        there(unsafe { System.alloc_zeroed(layout) })
+    }
+
+    unsafe fn realloc(&self, memory: *mut u8, layout: Layout, size: usize) -> *mut u8 {
+        there(unsafe { System.realloc(memory, layout, size) })
+    }
+
+    unsafe fn dealloc(&self, memory: *mut u8, layout: Layout) {
+        unsafe { System.dealloc(memory, layout) }
+    }
 }
 
 // ---- Mapped files.

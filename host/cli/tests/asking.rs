@@ -219,6 +219,14 @@ fn two_types_are_refused_and_named() {
         fails(&["count", &file, "--jobs", jobs], 2, words);
         fails(&["count", &file, "--jobs", jobs], 2, named);
     }
+    // Two parts are refused: the first is said, however the jobs run.
+    let farther = gray16(0, 140_000, 6, 7);
+    let tiles = [gray8(0, 0, 5, 5), farther, far];
+    let three = folder.write("three.czi", &mosaic(&tiles));
+    let named_first = "(tile 2 has gray16, tile 0 has gray8)";
+    for _ in 0..20 {
+        fails(&["count", &three, "--jobs", "3"], 2, named_first);
+    }
     let near = folder.write(
         "near.czi",
         &mosaic(&[gray8(0, 0, 5, 5), gray16(2, 2, 6, 7)]),
@@ -229,7 +237,7 @@ fn two_types_are_refused_and_named() {
     }
     let asked = "(tile 0 has gray8, asked for is gray16)";
     fails(&["count", &near, "--type", "Gray16"], 2, asked);
-    assert_eq!(folder.names(), ["near.czi", "two.czi"]);
+    assert_eq!(folder.names(), ["near.czi", "three.czi", "two.czi"]);
 }
 
 #[test]
@@ -243,9 +251,18 @@ fn a_plane_of_many_rows_is_composed_in_parts() {
     };
     let file = folder.write("a.czi", &mosaic(&[tile]));
     let map = folder.path("map");
-    let words = ["compose", &file, "--window", "0,0,65536,400", "--map", &map];
-    let lines = prints(&words);
+    // 600,000 KiB of addresses hold 512 MiB, and not the plane.
+    let words = "ulimit -v 600000; czi compose \"$1\" --map \"$2\" --window 0,0,65536,400";
+    let (code, lines, err) = said(&shell(words, &[&file, &map]));
+    assert_eq!(code, 0, "{err}");
     assert!(lines.starts_with("pixels=26214400\ncovered=180\nstored=180\n"));
+    let words = "ulimit -v 600000; czi count \"$1\" --window 0,0,65536,400 --jobs 1";
+    let (code, lines, err) = said(&shell(words, &[&file]));
+    assert_eq!(code, 0, "{err}");
+    assert!(
+        lines.starts_with("covered=180\npixels=26214400\nwindows=2\n"),
+        "{lines}"
+    );
     let map = fs::read(map).unwrap();
     let (head, rows) = map.split_at(b"P4\n65536 400\n".len());
     assert_eq!(head, b"P4\n65536 400\n");

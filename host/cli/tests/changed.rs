@@ -15,7 +15,7 @@ fn while_mapped(folder: &Folder, words: &[&str], happen: impl FnOnce(&str)) -> O
     let child = Command::new(CZI)
         .args([words[0], &file])
         .args(&words[1..])
-        .args(["--window", "0,0,20000,10000"])
+        .args(["--window", "0,0,20000,5000"])
         .stdout(Stdio::piped())
         .stderr(Stdio::piped())
         .spawn()

@@ -36,11 +36,11 @@ fn while_a_large_plane_is_written() {
     let length = begun.elapsed().max(Duration::from_millis(20));
     let signals = signals();
     let mut ended = 0;
-    for (k, signal) in (0..40).zip(signals.iter().cycle()) {
+    for (k, signal) in (0..30).zip(signals.iter().cycle()) {
         folder.write("map", b"old map");
         let _ = std::fs::remove_file(folder.path("out"));
         let mut child = compose(&file, &folder, "0,0,6000,4000").spawn().unwrap();
-        std::thread::sleep(length * k / 40);
+        std::thread::sleep(length * k / 30);
         kill(&child, *signal);
         let status = child.wait().unwrap();
         if status.success() {
@@ -67,7 +67,7 @@ fn while_the_files_are_put_in_place() {
     let folder = Folder::new("ended-small");
     let window = format!("0,0,{SIDE},{SIDE}");
     let mut outcomes = [0; 2];
-    for (k, signal) in (0..250).zip(signals().iter().cycle()) {
+    for (k, signal) in (0..200).zip(signals().iter().cycle()) {
         folder.write("out", b"old plane");
         folder.write("map", b"old map");
         let mut running = waiting(&mut compose("-", &folder, &window));

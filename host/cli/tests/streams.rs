@@ -3,6 +3,7 @@
 
 mod support;
 
+use support::mosaic::{gray8, mosaic, Tile};
 use support::{is_failure, said, sample, shell, Folder};
 
 #[test]
@@ -115,36 +116,45 @@ fn a_reader_that_goes_away_is_a_failure() {
 #[test]
 fn too_little_memory_is_one_line() {
     let folder = Folder::new("memory");
-    let file = sample("mosaic.czi");
+    let tiles: Vec<Tile> = (0..300).map(|k| gray8(k, 0, 1, 1)).collect();
+    let many = folder.write("many", &mosaic(&tiles));
+    let (out, map) = (folder.path("out"), folder.path("map"));
     let limited = |kib: u32, words: &str| {
-        let line = format!("ulimit -v {kib}; czi {words}");
-        shell(&line, &[&file, &folder.path("out"), &folder.path("map")])
+        let line = format!("export RUST_BACKTRACE=1; ulimit -v {kib}; czi {words}");
+        shell(&line, &[&sample("mosaic.czi"), &out, &map, &many])
     };
     let starts = |kib: &u32| limited(*kib, "--version").status.success();
     let least = (1000..100_000).step_by(64).find(starts).expect("it starts");
     let mut short = 0;
-    for words in [
-        "compose \"$1\" --window 0,0,3000,3000 --out \"$2\" --map \"$3\"",
-        "compose \"$1\" --window 0,0,3000,3000 --map - --composer both",
-        "count \"$1\" --window 0,0,3000,3000 --jobs 8",
-        "count \"$1\" --window 0,0,3000,30000 --jobs 1000",
-        "info \"$1\" --json",
-        "extract - --xml --out \"$2\" <\"$1\"",
+    for (words, steps) in [
+        (
+            "compose \"$1\" --window 0,0,3000,3000 --out \"$2\" --map \"$3\"",
+            20,
+        ),
+        (
+            "compose \"$1\" --window 0,0,3000,3000 --map - --composer both",
+            20,
+        ),
+        ("count \"$1\" --window 0,0,3000,3000 --jobs 8", 20),
+        ("count \"$1\" --window 0,0,3000,30000 --jobs 1000", 20),
+        ("tiles \"$4\" --json", 12),
+        ("info \"$4\"", 12),
+        ("extract - --xml --out \"$2\" <\"$1\"", 12),
     ] {
-        for step in 0..25 {
+        for step in 0..steps {
             let output = limited(least + step * step * 16, words);
             if output.status.success() {
-                for name in folder.names() {
-                    std::fs::remove_file(folder.path(&name)).unwrap();
-                }
+                let _ = std::fs::remove_file(&out);
+                let _ = std::fs::remove_file(&map);
                 continue;
             }
             let (code, out, err) = said(&output);
             assert_eq!((code, out.as_str()), (1, ""), "{words}: {err}");
+            assert!(err.starts_with("czi: "), "{words}: {err}");
             assert_eq!(err.matches('\n').count(), 1, "{words}: {err}");
-            assert!(folder.names().is_empty(), "{words}");
+            assert_eq!(folder.names(), ["many"], "{words}");
             short += 1;
         }
     }
-    assert!(short > 20, "only {short} runs had too little memory");
+    assert!(short > 40, "only {short} runs had too little memory");
 }
