@@ -23,6 +23,13 @@ pub struct Staged {
     undo: Undo,
 }
 
+/// Gives a file a second name.
+type Link = fn(&Path, &Path) -> io::Result<()>;
+
+fn hard_link(file: &Path, name: &Path) -> io::Result<()> {
+    fs::hard_link(file, name)
+}
+
 /// Files in place that may still be taken back; they are, where this is dropped.
 #[must_use]
 #[derive(Default)]
@@ -90,6 +97,10 @@ impl Staged {
 
 /// Puts all in place, or none: where one fails, those before are taken back.
 pub fn put_in_place(staged: Vec<Staged>) -> Result<Placed, Failure> {
+    put_by(staged, hard_link)
+}
+
+fn put_by(staged: Vec<Staged>, link: Link) -> Result<Placed, Failure> {
     staged.iter().try_for_each(Staged::sync)?;
     undisturbed(|| {
         let mut placed = Placed::default();
@@ -98,8 +109,8 @@ pub fn put_in_place(staged: Vec<Staged>) -> Result<Placed, Failure> {
         for file in staged {
             let given = file.output.given.clone();
             let done = match file.output.old {
-                None => placed.add_new(file),
-                Some(old) => placed.replace(file, old),
+                None => placed.add_new(file, link),
+                Some(old) => placed.replace(file, old, link),
             };
             done.map_err(|error| Failure::of(&given, error))?;
         }
@@ -109,9 +120,9 @@ pub fn put_in_place(staged: Vec<Staged>) -> Result<Placed, Failure> {
 
 impl Placed {
     /// A second name is never given to a file that came to be there meanwhile.
-    fn add_new(&mut self, file: Staged) -> io::Result<()> {
+    fn add_new(&mut self, file: Staged, link: Link) -> io::Result<()> {
         let place = &file.output.place;
-        match fs::hard_link(&file.beside, place) {
+        match link(&file.beside, place) {
             Ok(()) => {
                 self.undo.push(Undo::remove(file.place)?);
                 self.undo.push(file.undo);
@@ -131,18 +142,18 @@ impl Placed {
     }
 
     /// The old file keeps a second name until the end.
-    fn replace(&mut self, file: Staged, old: Identity) -> io::Result<()> {
+    fn replace(&mut self, file: Staged, old: Identity, link: Link) -> io::Result<()> {
         let place = &file.output.place;
         let there = fs::symlink_metadata(place)?;
         if !there.is_file() || Identity::of(&there) != old {
             return Err(io::Error::other("another file came to be there"));
         }
-        let link = |beside: &Path| {
+        let second_name = |beside: &Path| {
             let name = Name::new(beside)?;
-            fs::hard_link(place, beside)?;
+            link(place, beside)?;
             Ok((name, Undo::remove(name)?))
         };
-        let (second, undo) = match beside(place, "old", link) {
+        let (second, undo) = match beside(place, "old", second_name) {
             Ok((second, (name, undo))) => {
                 fs::rename(&file.beside, place)?;
                 undo.keep();
@@ -183,5 +194,83 @@ impl Placed {
 impl Drop for Placed {
     fn drop(&mut self) {
         undisturbed(|| while self.undo.pop().is_some() {});
+    }
+}
+
+#[cfg(test)]
+mod tests {
+    use super::*;
+    use crate::outputs::look;
+
+    /// As on a disk without second names.
+    fn no_link(_: &Path, _: &Path) -> io::Result<()> {
+        Err(ErrorKind::Unsupported.into())
+    }
+
+    /// Writes "new" to a and b in a folder of that name.
+    fn stage(name: &str, old: &[&str]) -> (PathBuf, Vec<Staged>) {
+        let folder = std::env::temp_dir().join(format!("czi-{}-{name}", std::process::id()));
+        fs::create_dir_all(&folder).unwrap();
+        for name in old {
+            fs::write(folder.join(name), "old").unwrap();
+        }
+        let (a, b) = (folder.join("a"), folder.join("b"));
+        let outputs = look(&[&a, &b], true, None).unwrap();
+        let staged = outputs.iter().map(|output| {
+            let mut staged = Staged::begin(output).unwrap();
+            staged.write(b"new").unwrap();
+            staged
+        });
+        let staged = staged.collect();
+        (folder, staged)
+    }
+
+    /// Names with what they hold; the folder is removed.
+    fn left(folder: &Path) -> String {
+        let mut left = Vec::new();
+        for entry in fs::read_dir(folder).unwrap() {
+            let path = entry.unwrap().path();
+            let name = path.file_name().unwrap().to_string_lossy().into_owned();
+            let holds = fs::read_to_string(&path).unwrap_or("folder".to_string());
+            left.push(format!("{name}={holds}"));
+        }
+        fs::remove_dir_all(folder).unwrap();
+        left.sort();
+        left.join(" ")
+    }
+
+    /// One test, since the table is for one thread.
+    #[test]
+    fn all_or_none_with_second_names_and_without() {
+        everything_is_kept_or_taken_back();
+        what_came_meanwhile_stays();
+    }
+
+    fn everything_is_kept_or_taken_back() {
+        for (name, link) in [("link", hard_link as Link), ("none", no_link)] {
+            for old in [&[][..], &["a"], &["b"], &["a", "b"]] {
+                let (folder, staged) = stage(&format!("keep-{name}"), old);
+                put_by(staged, link).unwrap().keep();
+                assert_eq!(left(&folder), "a=new b=new", "{name} {old:?}");
+                let (folder, staged) = stage(&format!("drop-{name}"), old);
+                drop(put_by(staged, link).unwrap());
+                let wanted: Vec<String> = old.iter().map(|n| format!("{n}=old")).collect();
+                assert_eq!(left(&folder), wanted.join(" "), "{name} {old:?}");
+            }
+        }
+    }
+
+    fn what_came_meanwhile_stays() {
+        for (name, link) in [("link", hard_link as Link), ("none", no_link)] {
+            let (folder, staged) = stage(&format!("file-{name}"), &["a"]);
+            fs::write(folder.join("b"), "another").unwrap();
+            assert!(put_by(staged, link).is_err());
+            assert_eq!(left(&folder), "a=old b=another", "{name}");
+            let (folder, staged) = stage(&format!("folder-{name}"), &["a", "b"]);
+            fs::remove_file(folder.join("b")).unwrap();
+            fs::create_dir(folder.join("b")).unwrap();
+            assert!(put_by(staged, link).is_err());
+            assert_eq!(left(&folder), "a=old b=folder", "{name}");
+        }
     }
 }

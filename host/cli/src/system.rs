@@ -144,7 +144,7 @@ fn undo_all() {
 }
 
 /// Something that is undone when this is dropped, or by a signal that ends the
-/// run before; unless it is kept.
+/// run before; unless it is kept. Only one thread makes these.
 #[must_use]
 pub struct Undo(&'static Slot);
 
