@@ -98,7 +98,8 @@ class Files:
         judged = self.run("judge", path)
         theirs = reading.figures(file)
         refused = theirs.startswith(b"refused=")
-        same = (self.said("info", path) == theirs and self.said("list", path) == reading.listing(file)
+        figures = b"".join(self.said("info", path).splitlines(keepends=True)[:5])
+        same = (figures == theirs and self.said("list", path) == reading.listing(file)
                 and self.said("judge", path) == (theirs if refused else b"accepted\n"))
         words = [(judged.stdout or judged.stderr).decode().strip().removeprefix("czi: "),
                  "figures agree" if same else "FIGURES DIFFER"]
@@ -175,7 +176,7 @@ class Files:
     def inside(self, path, kind, left, top, width, height, work):
         """The command's three channels, and its map with a byte 255 or 0 for a pixel."""
         ran = self.run("compose", path, "--window", "%d,%d,%d,%d" % (left, top, width, height), "--type", kind,
-                       "--scene", "any", "--masks", "off", "--composer", "both",
+                       "--scene", "any", "--masks", "off", "--composer", "both", "--force",
                        "--out", work / "plane", "--map", work / "map")
         if ran.returncode != 0 or b"both composers agree" not in ran.stdout.splitlines():
             sys.exit("compare-real: FAILED: %s: czi compose: %s" % (path.name, (ran.stdout + ran.stderr).decode()))

@@ -1,12 +1,13 @@
 //! Why a command did not do what it was asked.
 
 use std::fmt;
+use std::path::Path;
 
 /// Why a command failed.
 #[derive(Debug)]
 pub enum Failure {
-    /// The library refused.
-    Refused(czi::Refusal),
+    /// The library refused; with what is to be said of it.
+    Refused(czi::Refusal, Option<String>),
     /// A bad argument.
     Usage(String),
     /// A file can't be read or written, or memory is short.
@@ -17,22 +18,35 @@ impl Failure {
     /// The exit code.
     pub fn code(&self) -> u8 {
         match self {
-            Failure::Refused(_) => 2,
+            Failure::Refused(..) => 2,
             Failure::Usage(_) | Failure::Other(_) => 1,
         }
+    }
+
+    /// The one line that is said, whatever characters a name has.
+    pub fn line(&self) -> String {
+        let text = self.to_string();
+        let shown = text.chars().map(|c| if c.is_control() { '?' } else { c });
+        format!("czi: {}\n", shown.collect::<String>())
+    }
+
+    /// Something is wrong with that file.
+    pub fn of(path: &Path, what: impl fmt::Display) -> Failure {
+        Failure::Other(format!("{}: {what}", path.display()))
     }
 }
 
 impl From<czi::Refusal> for Failure {
     fn from(refusal: czi::Refusal) -> Failure {
-        Failure::Refused(refusal)
+        Failure::Refused(refusal, None)
     }
 }
 
 impl fmt::Display for Failure {
     fn fmt(&self, f: &mut fmt::Formatter<'_>) -> fmt::Result {
         match self {
-            Failure::Refused(refusal) => write!(f, "{refusal}"),
+            Failure::Refused(refusal, None) => write!(f, "{refusal}"),
+            Failure::Refused(refusal, Some(more)) => write!(f, "{refusal} ({more})"),
             Failure::Usage(what) => write!(f, "{what} (czi --help says how it is called)"),
             Failure::Other(what) => write!(f, "{what}"),
         }

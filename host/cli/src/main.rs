@@ -1,80 +1,103 @@
-//! The command `czi`: lists, judges and composes CZI microscope files.
+//! The command `czi`: judges, lists, counts and composes CZI microscope files.
 //!
 //! Exit codes: 0 done; 2 refused, with the number, its place and the paper's
-//! words in one line on standard error; 1 for a bad argument or a file that
-//! can't be read or written.
+//! words in one line on standard error; 1 for a bad argument, a file that can't
+//! be read or written or was changed meanwhile, streams that take nothing, or
+//! too little memory. A signal that ends the run undoes what was begun, and the
+//! run dies by that signal.
 
-#![forbid(unsafe_code)]
+#![deny(unsafe_code)]
 
+mod answer;
 mod arguments;
 mod compose;
+mod count;
+mod extract;
 mod failure;
 mod help;
+mod identity;
+mod info;
+mod input;
+mod memory;
+mod outputs;
 mod pbm;
-mod read;
-mod request;
-mod write;
+mod plane;
+mod progress;
+mod question;
+mod records;
+mod refused;
+mod sample;
+mod staged;
+mod streams;
+mod system;
+mod tiles;
+mod types;
+mod window;
 
-use arguments::Arguments;
+use answer::Answer;
+use arguments::{Arguments, Takes};
 use failure::Failure;
-use read::lend;
+use input::Input;
 use std::ffi::OsString;
-use std::io::Write;
-use std::path::Path;
 use std::process::ExitCode;
 
-/// The sample that `czi sample` writes.
-const SAMPLE: &[u8] = include_bytes!("../../samples/mosaic.czi");
+/// A command that takes a path and no option.
+const PATH_ONLY: Takes = Takes {
+    flags: &[],
+    values: &[],
+    many: &[],
+};
 
 fn main() -> ExitCode {
-    let arguments = std::env::args_os().skip(1).collect();
-    let done = run(arguments).and_then(|text| {
-        let mut out = std::io::stdout().lock();
-        let written = out.write_all(text.as_bytes()).and_then(|()| out.flush());
-        written.map_err(|error| Failure::Other(format!("standard output: {error}")))
-    });
-    match done {
+    system::prepare();
+    let words = std::env::args_os().skip(1).collect();
+    match run(words).and_then(Answer::give) {
         Ok(()) => ExitCode::SUCCESS,
         Err(failure) => {
-            eprintln!("czi: {failure}");
+            streams::complain(&failure);
             ExitCode::from(failure.code())
         }
     }
 }
 
-/// Runs a command line; answers what goes to standard output.
-fn run(arguments: Vec<OsString>) -> Result<String, Failure> {
-    let mut arguments = Arguments::new(arguments);
-    let command = arguments.command()?;
-    if let Some(text) = help::asked_for(&command, &arguments) {
-        return Ok(text);
+/// Runs a command line. Every command has something to say on standard output.
+fn run(mut words: Vec<OsString>) -> Result<Answer, Failure> {
+    streams::output()?;
+    if words.is_empty() {
+        return Err(Failure::Usage("a command is missing".to_string()));
     }
-    match command.as_str() {
-        "list" => Ok(czi::list(&lend(&arguments.only_path("FILE")?)?)),
-        "info" => info(&arguments.only_path("FILE")?),
-        "judge" => {
-            czi::judge(&lend(&arguments.only_path("FILE")?)?)?;
+    let command = words.remove(0);
+    let name = command.to_string_lossy();
+    let asks_for_help = |word: &OsString| word == "--help" || word == "-h";
+    match name.as_ref() {
+        "help" | "--help" | "-h" => help::asked_for(&words).map(Answer::lines),
+        "--version" => Ok(Answer::lines(version())),
+        _ if words.iter().any(asks_for_help) => help::asked_for(&[command]).map(Answer::lines),
+        "judge" => read(words, |file| {
+            czi::judge(file)?;
             Ok("accepted\n".to_string())
-        }
-        "sample" => {
-            let path = arguments.only_path("OUT.czi")?;
-            write::write_all(&[(&path, SAMPLE)])?;
-            Ok(format!("{} bytes written\n", SAMPLE.len()))
-        }
-        "compose" => compose::run(arguments),
-        other => Err(Failure::Usage(format!("there is no command {other:?}"))),
+        }),
+        "list" => read(words, |file| Ok(czi::list(file))),
+        "info" => info::run(words),
+        "tiles" => tiles::run(words),
+        "count" => count::run(words),
+        "compose" => compose::run(words),
+        "extract" => extract::run(words),
+        "sample" => sample::run(words),
+        _ => Err(Failure::Usage(format!("there is no command {command:?}"))),
     }
 }
 
-/// The figures of the listing, for a file of any size.
-fn info(path: &Path) -> Result<String, Failure> {
-    let summary = czi::summary(&lend(path)?)?;
-    let edges = match summary.edges {
-        None => "none".to_string(),
-        Some(e) => format!("{},{},{},{}", e.left, e.top, e.right, e.bottom),
-    };
-    Ok(format!(
-        "bytes={}\nsegments={}\ntiles={}\nattachments={}\nbox={edges}\n",
-        summary.bytes, summary.segments, summary.tiles, summary.attachments
-    ))
+fn version() -> String {
+    format!("czi {}\n", env!("CARGO_PKG_VERSION"))
+}
+
+/// A command that reads a file and says some lines of it.
+fn read(
+    words: Vec<OsString>,
+    lines: impl FnOnce(&[u8]) -> Result<String, Failure>,
+) -> Result<Answer, Failure> {
+    let arguments = Arguments::parse(words, &PATH_ONLY)?;
+    let input = Input::open(&arguments.only_path("FILE")?)?;
+    input.reading(lines).map(Answer::lines)
 }

@@ -1,71 +1,11 @@
 //! The command as a person runs it: answers, refusals, bad arguments.
 
+mod support;
+
 use std::fs;
 use std::io::Write;
-use std::path::PathBuf;
-use std::process::{Command, Output, Stdio};
-
-fn samples() -> PathBuf {
-    PathBuf::from(env!("CARGO_MANIFEST_DIR")).join("../samples")
-}
-
-fn sample(name: &str) -> String {
-    samples().join(name).display().to_string()
-}
-
-fn czi(arguments: &[&str]) -> Output {
-    let mut command = Command::new(env!("CARGO_BIN_EXE_czi"));
-    command.args(arguments).output().expect("the command runs")
-}
-
-fn said(output: &Output) -> (i32, String, String) {
-    let text = |bytes: &[u8]| String::from_utf8(bytes.to_vec()).expect("text");
-    let code = output.status.code().expect("an exit code");
-    (code, text(&output.stdout), text(&output.stderr))
-}
-
-/// One line on standard error, nothing on standard output, that code.
-fn fails(arguments: &[&str], code: i32, line: &str) {
-    let (got, out, err) = said(&czi(arguments));
-    assert_eq!((got, out.as_str()), (code, ""), "{arguments:?}: {err}");
-    assert!(
-        err.starts_with("czi: ") && err.contains(line),
-        "{arguments:?}: {err}"
-    );
-    assert_eq!(err.matches('\n').count(), 1, "{arguments:?}: {err}");
-}
-
-/// A folder of its own for a test, removed at the end.
-struct Folder(PathBuf);
-
-impl Folder {
-    fn new(name: &str) -> Folder {
-        let path = PathBuf::from(env!("CARGO_TARGET_TMPDIR")).join(name);
-        let _ = fs::remove_dir_all(&path);
-        fs::create_dir_all(&path).expect("a folder");
-        Folder(path)
-    }
-
-    fn path(&self, name: &str) -> String {
-        self.0.join(name).display().to_string()
-    }
-
-    fn names(&self) -> Vec<String> {
-        let entries = fs::read_dir(&self.0).expect("the folder");
-        let name = |e: std::io::Result<fs::DirEntry>| e.expect("an entry").file_name();
-        let mut names: Vec<String> = entries
-            .map(|e| name(e).to_string_lossy().into_owned())
-            .collect();
-        names.sort();
-        names
-    }
-}
-
-impl Drop for Folder {
-    fn drop(&mut self) {
-        let _ = fs::remove_dir_all(&self.0);
-    }
-}
+use std::process::{Command, Stdio};
+use support::{czi, fails, said, sample, samples, Folder};
 
 #[test]
 fn list_prints_the_text_in_every_case() {
@@ -81,10 +21,16 @@ fn info_says_the_figures_of_a_file_of_any_size() {
     let (code, out, _) = said(&czi(&["info", &sample("over.czi")]));
     assert_eq!(code, 0);
     assert!(
-        out.starts_with("bytes=65568\n") && out.ends_with("box=none\n"),
+        out.starts_with("bytes=65568\n") && out.contains("\nbox=none\n"),
         "{out}"
     );
-    let wanted = fs::read_to_string(sample("mosaic.txt")).unwrap();
+    let mut wanted = fs::read_to_string(sample("mosaic.txt")).unwrap();
+    wanted += "pyramid_tiles=0\nmasked_tiles=1\ntype=gray8 tiles=4\n";
+    wanted += "scene=0 tiles=4 box=100,60,143,88\n";
+    wanted += "letter=C tiles=4 least=0 greatest=0\n";
+    wanted += "letter=M tiles=4 least=0 greatest=3\n";
+    wanted += "letter=S tiles=4 least=0 greatest=0\n";
+    wanted += "attachment=0 bytes=40\n";
     assert_eq!(said(&czi(&["info", &sample("mosaic.czi")])).1, wanted);
 }
 
@@ -105,7 +51,7 @@ fn judge_says_the_number_the_place_and_the_words() {
 
 #[test]
 fn files_that_are_missing_or_no_files() {
-    for command in ["list", "info", "judge"] {
+    for command in ["list", "info", "judge", "tiles", "count", "compose"] {
         fails(&[command, &sample("no such file")], 1, "no such file: ");
         fails(&[command, &samples().display().to_string()], 1, "directory");
         let below = sample("mosaic.czi/below");
@@ -121,9 +67,28 @@ fn files_that_are_missing_or_no_files() {
 
 #[test]
 fn a_pipe_is_read_to_its_end() {
-    let mut command = Command::new(env!("CARGO_BIN_EXE_czi"));
+    for name in ["/dev/stdin", "-"] {
+        reads_a_pipe(name);
+    }
+}
+
+#[test]
+fn standard_input_that_is_a_file_is_read_from_where_it_stands() {
+    let folder = Folder::new("stdin");
+    let bytes = fs::read(sample("mosaic.czi")).unwrap();
+    let path = folder.write("behind", &[b"12345", &bytes[..]].concat());
+    let wanted = fs::read_to_string(sample("mosaic.txt")).unwrap();
+    let line = "exec <\"$1\"; dd bs=1 count=5 of=\"$2\" 2>\"$2\"; czi list -";
+    let output = support::shell(line, &[&path, &folder.path("x")]);
+    assert_eq!(said(&output), (0, wanted.clone(), String::new()));
+    let output = support::shell("czi list - <\"$1\"", &[&sample("mosaic.czi")]);
+    assert_eq!(said(&output), (0, wanted, String::new()));
+}
+
+fn reads_a_pipe(name: &str) {
+    let mut command = Command::new(support::CZI);
     let mut running = command
-        .args(["list", "/dev/stdin"])
+        .args(["list", name])
         .stdin(Stdio::piped())
         .stdout(Stdio::piped())
         .spawn()
@@ -138,11 +103,19 @@ fn a_pipe_is_read_to_its_end() {
 
 #[test]
 fn help_is_there_for_each_command() {
-    for command in ["list", "info", "judge", "compose", "sample"] {
+    for command in [
+        "list", "info", "judge", "tiles", "count", "compose", "extract", "sample",
+    ] {
         let (code, out, err) = said(&czi(&[command, "--help"]));
         assert_eq!((code, err.as_str()), (0, ""));
         assert!(out.starts_with(&format!("usage: czi {command}")), "{out}");
+        assert!(!out.contains('@') && out.lines().all(|line| line.len() <= 82));
+        assert_eq!(said(&czi(&["help", command])), (code, out, err));
     }
+    fails(&["help", "paint"], 1, "there is no command \"paint\"");
+    fails(&["paint", "--help"], 1, "there is no command \"paint\"");
+    let version = format!("czi {}\n", env!("CARGO_PKG_VERSION"));
+    assert_eq!(said(&czi(&["--version"])), (0, version, String::new()));
     for word in ["help", "--help", "-h"] {
         let (code, out, _) = said(&czi(&[word]));
         assert!(code == 0 && out.contains("exit codes"), "{out}");
@@ -201,8 +174,9 @@ mod compose {
     fn both_composers_agree_and_both_files_are_written() {
         let folder = Folder::new("both");
         let more = [&BOX[..], &["--masks", "on", "--composer", "both"]].concat();
-        let wanted =
-            "pixels=1204\ncovered=1138\nstored=1500 plain, 1138 quick\nboth composers agree\n";
+        let wanted = "pixels=1204\ncovered=1138\nstored=1500 plain, 1138 quick\n\
+                      both composers agree\n\
+                      tiles=4 masks=on scene=0 type=gray8 window=100,60,43,28\n";
         assert_eq!(run(&folder, &more), (0, wanted.to_string(), String::new()));
         assert_eq!(folder.names(), ["map.pbm", "plane.raw"]);
         assert_eq!(fs::read(folder.path("plane.raw")).unwrap().len(), 1204);
@@ -250,18 +224,22 @@ mod compose {
     fn refusals_of_the_question() {
         let folder = Folder::new("refusals");
         let window = |window| ["--type", "0", "--window", window];
-        for wrong in [
-            "0,0,65537,1",
-            "0,0,1,65537",
-            "0,0,0,1",
-            "0,0,4294967295,4294967295",
+        for (wrong, half) in [
+            ("0,0,65537,1", "(the width is 65537)"),
+            ("0,0,1,65537", "(the height is 65537)"),
+            ("0,0,0,1", "(the width is 0)"),
+            ("0,0,4294967295,4294967295", "(the width is 4294967295)"),
         ] {
             refused(&folder, &window(wrong), 2, "refused 20 at 0: window side");
+            refused(&folder, &window(wrong), 2, half);
         }
-        refused(&folder, &window("2147483647,0,1,1"), 2, "refused 20 at 0: ");
+        let edge = "(the right edge is 2147483648)";
+        refused(&folder, &window("2147483647,0,1,1"), 2, edge);
         let typed = |t| ["--window", "100,60,4,4", "--type", t];
         refused(&folder, &typed("12"), 2, "refused 21 at 0: asked type");
         refused(&folder, &typed("1"), 2, "refused 23 at ");
+        let has = "(tile 0 has gray8, asked for is gray16)";
+        refused(&folder, &typed("Gray16"), 2, has);
         for hex in ["", "0011", "001122"] {
             let more = [&BOX[..], &["--background", hex]].concat();
             refused(&folder, &more, 2, "refused 21 at 0: ");
@@ -283,8 +261,6 @@ mod compose {
         let folder = Folder::new("bad");
         let with = |more: &[&'static str]| [&BOX[..], more].concat();
         for (more, line) in [
-            (vec!["--type", "0"], "--window is missing"),
-            (vec!["--window", "0,0,1,1"], "--type is missing"),
             (vec!["--window", "0,0,1", "--type", "0"], "L,T,W,H"),
             (vec!["--window", "0,0,1,1,1", "--type", "0"], "L,T,W,H"),
             (vec!["--window", "0,0,-1,1", "--type", "0"], "\"-1\""),
@@ -307,7 +283,12 @@ mod compose {
             (with(&["--start", "M=1"]), "M has no start"),
             (with(&["--start"]), "wants a value"),
             (with(&["--what", "1"]), "--what"),
-            (with(&["another"]), "FILE is given twice"),
+            (vec!["--window"], "--window wants a value"),
+            (with(&["--start", "--masks"]), "--start wants a value"),
+            (with(&["--force=1"]), "--force takes no value"),
+            (with(&["--force", "--force"]), "--force is given twice"),
+            (with(&["--jobs", "2"]), "no option --jobs here"),
+            (with(&["another"]), "\"another\" is one argument too many"),
         ] {
             refused(&folder, &more, 1, line);
         }
@@ -315,8 +296,8 @@ mod compose {
         let out = folder.path("same");
         let same = ["compose", &file, "--out", &out, "--map", &out];
         fails(&[&same[..], &BOX[..]].concat(), 1, "the same file");
-        let missing = ["compose", &file, "--map", &out];
-        fails(&[&missing[..], &BOX[..]].concat(), 1, "--out is missing");
+        let twice = ["compose", &file, "--out", "-", "--map=-"];
+        fails(&[&twice[..], &BOX[..]].concat(), 1, "both -");
         let missing = ["compose", "--out", &out, "--map", "m"];
         fails(&[&missing[..], &BOX[..]].concat(), 1, "FILE is missing");
     }

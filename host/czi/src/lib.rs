@@ -43,7 +43,7 @@ pub const VERSION: u32 = 1;
 
 pub use calls::Counted;
 pub use compose::{compose_plain, compose_quick};
-pub use mapping::{map, zeros, Mapping};
+pub use mapping::{map, map_file, read, Mapping};
 pub use pixel::PixelType;
 pub use plane::{compose, NoPlane, Plane};
 pub use question::{Masks, Question, Scene};

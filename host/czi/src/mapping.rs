@@ -1,4 +1,4 @@
-//! Files lent to a call without a copy: a read-only mapping.
+//! Files lent to a call: read into memory, or mapped without a copy.
 
 #![allow(unsafe_code)]
 
@@ -11,8 +11,6 @@ use std::path::Path;
 
 const PROT_READ: i32 = 1;
 const MAP_PRIVATE: i32 = 2;
-const MAP_ANONYMOUS: i32 = 0x20;
-const MAP_NORESERVE: i32 = 0x4000;
 
 extern "C" {
     fn mmap(
@@ -26,33 +24,57 @@ extern "C" {
     fn munmap(address: *mut c_void, length: usize) -> i32;
 }
 
-/// Bytes that are mapped, not read; as a slice.
-///
-/// A mapped file must not be cut or changed by others while it is mapped, as
-/// with every mapping.
+/// Bytes that are mapped, not read; as a slice. See [`map`] for what holds of
+/// the file behind them.
+#[derive(Debug)]
 pub struct Mapping {
     address: *mut c_void,
     length: usize,
 }
 
-/// Maps a plain file, read-only. An empty one is an empty slice.
+// SAFETY: the bytes are read-only, belong to no thread, and the one who drops
+// the mapping is the last to have it.
+unsafe impl Send for Mapping {}
+// SAFETY: as above; many may read.
+unsafe impl Sync for Mapping {}
+
+/// Reads a file into memory, to its end.
+///
+/// Fails where the file can't be opened or read, or memory is short.
+pub fn read(path: &Path) -> io::Result<Vec<u8>> {
+    std::fs::read(path)
+}
+
+/// Maps a plain file, read-only and without a copy, for files that are larger
+/// than memory. An empty one is an empty slice. [`read`] does without the duty.
 ///
 /// Fails where the file can't be opened or mapped, or is a folder, a device or
 /// a pipe.
-pub fn map(path: &Path) -> io::Result<Mapping> {
-    let file = File::open(path)?;
+///
+/// # Safety
+///
+/// Nobody changes or cuts the file while the mapping lives, in this program or
+/// another. The bytes of a changed file change under the slice; reading past
+/// the end of one that was cut ends the program by SIGBUS.
+pub unsafe fn map(path: &Path) -> io::Result<Mapping> {
+    // SAFETY: the caller's duty is the same.
+    unsafe { map_file(&File::open(path)?) }
+}
+
+/// Maps an open plain file, from its first byte on.
+///
+/// Fails where the file can't be mapped, or is a folder, a device or a pipe.
+///
+/// # Safety
+///
+/// That of [`map`].
+pub unsafe fn map_file(file: &File) -> io::Result<Mapping> {
     let about = file.metadata()?;
     if !about.is_file() {
         return Err(io::Error::other("it is no plain file"));
     }
     let length = usize::try_from(about.len()).map_err(io::Error::other)?;
     Mapping::new(length, MAP_PRIVATE, file.as_raw_fd())
-}
-
-/// So many zero bytes, without the memory for them; for tries with lengths
-/// that no disk holds. Fails where the address space is too small.
-pub fn zeros(length: usize) -> io::Result<Mapping> {
-    Mapping::new(length, MAP_PRIVATE | MAP_ANONYMOUS | MAP_NORESERVE, -1)
 }
 
 impl Mapping {

@@ -1,11 +1,23 @@
 //! The stored samples through the wrapper.
 
 use std::fs;
-use std::path::PathBuf;
+use std::path::{Path, PathBuf};
 
 fn sample(name: &str) -> Vec<u8> {
     let folder = PathBuf::from(env!("CARGO_MANIFEST_DIR")).join("../samples");
     fs::read(folder.join(name)).expect("a stored sample")
+}
+
+#[allow(unsafe_code)]
+fn mapped(path: &Path) -> czi::Mapping {
+    // SAFETY: nobody changes a stored sample.
+    unsafe { czi::map(path) }.expect("a mapping")
+}
+
+#[test]
+fn a_mapping_goes_to_other_threads() {
+    fn crosses<T: Send + Sync>() {}
+    crosses::<czi::Mapping>();
 }
 
 #[test]
@@ -16,8 +28,9 @@ fn every_sample_is_listed_as_stored() {
         let path = entry.expect("a sample").path();
         if path.extension().is_some_and(|e| e == "czi") {
             let wanted = fs::read_to_string(path.with_extension("txt")).expect("its listing");
-            let mapped = czi::map(&path).expect("a mapping");
-            assert_eq!(czi::list(&mapped), wanted, "{}", path.display());
+            let read = czi::read(&path).expect("its bytes");
+            assert_eq!(czi::list(&read), wanted, "{}", path.display());
+            assert_eq!(mapped(&path)[..], read, "{}", path.display());
             listed += 1;
         }
     }

@@ -1,0 +1,75 @@
+//! The command `tiles`: a line a tile.
+
+use crate::answer::Answer;
+use crate::arguments::{Arguments, Takes};
+use crate::failure::Failure;
+use crate::input::Input;
+use crate::records::{self, Record};
+use crate::types;
+use std::ffi::OsString;
+
+const TAKES: Takes = Takes {
+    flags: &["--json"],
+    values: &[],
+    many: &[],
+};
+
+/// Answers the lines, or the same as JSON.
+pub fn run(words: Vec<OsString>) -> Result<Answer, Failure> {
+    let arguments = Arguments::parse(words, &TAKES)?;
+    let input = Input::open(&arguments.only_path("FILE")?)?;
+    let all = input.reading(|file| records::all(file, czi::summary(file)?.tiles))?;
+    let lines = match arguments.flag("--json") {
+        false => all.iter().map(line).collect(),
+        true => {
+            let objects: Vec<String> = all.iter().map(object).collect();
+            format!("[{}]\n", objects.join(",\n"))
+        }
+    };
+    Ok(Answer::lines(lines))
+}
+
+fn line(record: &Record) -> String {
+    let tile = &record.tile;
+    let m = tile.m.map_or("none".to_string(), |m| m.to_string());
+    let starts = record.starts.iter();
+    let starts: String = starts.map(|(l, start)| format!(" {l}={start}")).collect();
+    let pyramid = if tile.is_pyramid_tile() { "yes" } else { "no" };
+    let mask = match &tile.mask {
+        None => "none".to_string(),
+        Some(mask) => format!("{}x{}", mask.width, mask.height),
+    };
+    format!(
+        "tile={} type={} x={} y={} width={} height={} m={m}{starts} pyramid={pyramid} mask={mask}\n",
+        tile.entry,
+        types::name(tile.pixel_type),
+        tile.x.start,
+        tile.y.start,
+        tile.x.size,
+        tile.y.size,
+    )
+}
+
+/// The same; names and letters need no escapes.
+fn object(record: &Record) -> String {
+    let tile = &record.tile;
+    let m = tile.m.map_or("null".to_string(), |m| m.to_string());
+    let starts = record.starts.iter();
+    let starts: Vec<String> = starts.map(|(l, s)| format!("\"{l}\":{s}")).collect();
+    let mask = match &tile.mask {
+        None => "null".to_string(),
+        Some(mask) => format!("{{\"width\":{},\"height\":{}}}", mask.width, mask.height),
+    };
+    format!(
+        "{{\"tile\":{},\"type\":\"{}\",\"x\":{},\"y\":{},\"width\":{},\"height\":{},\"m\":{m},\
+         \"starts\":{{{}}},\"pyramid\":{},\"mask\":{mask}}}",
+        tile.entry,
+        types::name(tile.pixel_type),
+        tile.x.start,
+        tile.y.start,
+        tile.x.size,
+        tile.y.size,
+        starts.join(","),
+        tile.is_pyramid_tile(),
+    )
+}

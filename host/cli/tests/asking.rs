@@ -1,0 +1,372 @@
+//! What a person wants to ask: tiles, figures, counts, parts; and what is chosen
+//! where nothing is said.
+
+mod support;
+
+use std::fs;
+use support::mosaic::{gray16, gray8, mosaic, Tile};
+use support::{czi, fails, is_failure, said, sample, shell, Folder};
+
+/// What it prints, where it succeeds and says nothing else.
+fn prints(arguments: &[&str]) -> String {
+    let (code, out, err) = said(&czi(arguments));
+    assert_eq!((code, err.as_str()), (0, ""), "{arguments:?}: {out}");
+    out
+}
+
+#[test]
+fn a_line_a_tile() {
+    let file = sample("mosaic.czi");
+    let wanted = "\
+        tile=0 type=gray8 x=100 y=60 width=24 height=16 m=0 C=0 S=0 pyramid=no mask=none\n\
+        tile=1 type=gray8 x=118 y=60 width=24 height=16 m=1 C=0 S=0 pyramid=no mask=24x16\n\
+        tile=2 type=gray8 x=100 y=72 width=24 height=16 m=2 C=0 S=0 pyramid=no mask=none\n\
+        tile=3 type=gray8 x=119 y=71 width=24 height=16 m=3 C=0 S=0 pyramid=no mask=none\n";
+    assert_eq!(prints(&["tiles", &file]), wanted);
+    let json = prints(&["tiles", "--json", &file]);
+    let second =
+        "{\"tile\":1,\"type\":\"gray8\",\"x\":118,\"y\":60,\"width\":24,\"height\":16,\"m\":1,\
+        \"starts\":{\"C\":0,\"S\":0},\"pyramid\":false,\"mask\":{\"width\":24,\"height\":16}}";
+    assert_eq!(json.lines().nth(1), Some(&*format!("{second},")));
+    assert!(json.starts_with("[{\"tile\":0,") && json.ends_with("\"mask\":null}]\n"));
+    let pyramids = prints(&["tiles", &sample("pyramids.czi")]);
+    assert_eq!(
+        pyramids.matches(" m=none pyramid=yes mask=none\n").count(),
+        2
+    );
+    assert_eq!(prints(&["tiles", &sample("smallest.czi")]), "");
+    assert_eq!(
+        prints(&["tiles", &sample("smallest.czi"), "--json"]),
+        "[]\n"
+    );
+    fails(
+        &["tiles", &sample("refusal-09.czi")],
+        2,
+        "refused 9 at 92: ",
+    );
+}
+
+#[test]
+fn figures_that_explain_a_count() {
+    let folder = Folder::new("info");
+    let other = Tile {
+        scene: 3,
+        ..gray16(-50, -60, 10, 20)
+    };
+    let file = folder.write(
+        "a.czi",
+        &mosaic(&[gray8(0, 0, 4, 5), other, gray8(9, 1, 1, 1)]),
+    );
+    let lines = prints(&["info", &file]);
+    let (_, more) = lines.split_once("box=-50,-60,10,5\n").expect(&lines);
+    let wanted = "pyramid_tiles=0\nmasked_tiles=0\ntype=gray8 tiles=2\ntype=gray16 tiles=1\n\
+                  scene=0 tiles=2 box=0,0,10,5\nscene=3 tiles=1 box=-50,-60,-40,-40\n\
+                  letter=S tiles=3 least=0 greatest=3\n";
+    assert_eq!(more, wanted);
+    let json = prints(&["info", &file, "--json"]);
+    for part in [
+        "\"box\":{\"left\":-50,\"top\":-60,\"right\":10,\"bottom\":5}",
+        "\"types\":[{\"type\":\"gray8\",\"tiles\":2},{\"type\":\"gray16\",\"tiles\":1}]",
+        "{\"scene\":3,\"tiles\":1,\"box\":{\"left\":-50,\"top\":-60,\"right\":-40,\"bottom\":-40}}]",
+        "\"letters\":[{\"letter\":\"S\",\"tiles\":3,\"least\":0,\"greatest\":3}]",
+        "\"attachments\":[]}\n",
+    ] {
+        assert!(json.contains(part), "{part} in {json}");
+    }
+    let none = prints(&["info", &sample("pyramids.czi")]);
+    assert!(none.contains("box=none\npyramid_tiles=2\nmasked_tiles=0\ntype=gray8 tiles=2\n"));
+    let json = prints(&["info", &sample("mosaic.czi"), "--json"]);
+    assert!(json.ends_with("\"attachments\":[{\"attachment\":0,\"bytes\":40}]}\n"));
+}
+
+#[test]
+fn a_count_is_that_of_the_composer() {
+    let file = sample("mosaic.czi");
+    let chosen =
+        |masks: &str| format!("tiles=4 masks={masks} scene=0 type=gray8 window=100,60,43,28\n");
+    let counted = prints(&["count", &file]);
+    let wanted = format!("covered=1174\npixels=1204\nwindows=1\n{}", chosen("off"));
+    assert_eq!(counted, wanted);
+    let counted = prints(&["count", &file, "--masks=on", "--jobs=1"]);
+    assert!(counted.starts_with("covered=1138\n") && counted.ends_with(&chosen("on")));
+    let composed = prints(&["compose", &file, "--masks", "on"]);
+    let wanted = format!("pixels=1204\ncovered=1138\nstored=1138\n{}", chosen("on"));
+    assert_eq!(composed, wanted);
+    let counted = prints(&[
+        "count",
+        &file,
+        "--scene=any",
+        "--start=Z=-4",
+        "--start",
+        "C=0",
+    ]);
+    let chosen = "tiles=4 masks=off scene=any Z=-4 type=gray8 window=100,60,43,28\n";
+    assert!(
+        counted.starts_with("covered=0\n") && counted.ends_with(chosen),
+        "{counted}"
+    );
+}
+
+/// Cut lines go through the tiles, and the sum stays.
+#[test]
+fn counts_of_parts_add_up() {
+    let file = sample("mosaic.czi");
+    let windows = |window: &str, jobs: &str| {
+        let lines = prints(&["count", &file, "--window", window, "--jobs", jobs]);
+        let mut lines = lines.lines().map(str::to_string);
+        (lines.next().unwrap(), lines.nth(1).unwrap())
+    };
+    // From 65,536 columns before column 120 on, twice as wide.
+    let wide = "-65416,60,131072,28";
+    let is = |covered: u32, parts: u32| (format!("covered={covered}"), format!("windows={parts}"));
+    assert_eq!(windows(wide, "1"), is(1174, 2));
+    assert_eq!(windows(wide, "2"), is(1174, 2));
+    assert_eq!(windows(wide, "1024"), is(1174, 8));
+    assert_eq!(windows("100,-65456,43,131072", "3"), is(1174, 2));
+    assert_eq!(windows("100,60,43,28", "1024"), is(1174, 1));
+    for jobs in ["0", "1025", "-1", "x", ""] {
+        fails(&["count", &file, "--jobs", jobs], 1, "--jobs");
+    }
+}
+
+#[test]
+fn windows_that_are_refused_are_refused_by_the_library() {
+    let file = sample("mosaic.czi");
+    for (window, half) in [
+        ("0,0,0,70000", "(the width is 0)"),
+        ("0,0,70000,0", "(the height is 0)"),
+        ("2147400000,0,83648,1", "(the right edge is 2147483648)"),
+        (
+            "0,2147483647,1,4294967295",
+            "(the bottom edge is 6442450942)",
+        ),
+        (
+            "2147483647,0,4294967295,1",
+            "(the right edge is 6442450942)",
+        ),
+    ] {
+        let count = ["count", &file, "--window", window];
+        fails(&count, 2, "refused 20 at 0: ");
+        fails(&count, 2, half);
+    }
+    let last = ["count", &file, "--window", "2147400000,0,83647,1"];
+    assert!(prints(&last).starts_with("covered=0\npixels=83647\nwindows=2\n"));
+    fails(&["count", &file, "--type", "12"], 2, "refused 21 at 0: ");
+}
+
+#[test]
+fn a_file_without_a_box_covers_nothing() {
+    for (name, tiles) in [("smallest.czi", 0), ("pyramids.czi", 2)] {
+        let wanted = "covered=0\npixels=0\nwindows=0\n";
+        let chosen = format!("tiles={tiles} masks=off scene=0 type=none window=none\n");
+        assert_eq!(
+            prints(&["count", &sample(name)]),
+            format!("{wanted}{chosen}")
+        );
+        fails(&["compose", &sample(name)], 1, "no box, so a --window");
+    }
+    let empty = sample("smallest.czi");
+    let counted = prints(&["count", &empty, "--window", "0,0,3,3"]);
+    assert!(counted.starts_with("covered=0\npixels=9\nwindows=1\n"));
+    assert!(counted.ends_with("type=none window=0,0,3,3\n"));
+    let window = ["compose", &empty, "--window", "0,0,3,3"];
+    fails(&window, 1, "no tiles, so a --type");
+}
+
+/// One type among the tiles that count, whatever others the file has.
+#[test]
+fn the_type_is_that_of_the_tiles_in_the_window() {
+    let folder = Folder::new("types");
+    let elsewhere = Tile {
+        scene: 1,
+        ..gray8(0, 0, 5, 5)
+    };
+    let far = gray16(0, 70_000, 6, 7);
+    let file = folder.write("one.czi", &mosaic(&[elsewhere, far]));
+    for command in ["count", "compose"] {
+        let one = prints(&[command, &file, "--window", "0,0,6,65536"]);
+        assert!(one.contains(" type=gray8 "), "nothing is selected: {one}");
+    }
+    // The first window has no tile, the second has one of another type than tile 0.
+    let lines = prints(&["count", &file]);
+    let chosen = "tiles=2 masks=off scene=0 type=gray16 window=0,0,6,70007\n";
+    assert_eq!(
+        lines,
+        format!("covered=42\npixels=420042\nwindows=2\n{chosen}")
+    );
+    let out = folder.path("out");
+    let here = ["compose", &file, "--window", "0,70000,6,7", "--out", &out];
+    assert!(prints(&here).contains(" type=gray16 "));
+    assert_eq!(fs::read(&out).unwrap(), [1; 84]);
+    // A background that does not fit is 21 for the type that is found.
+    let more = |hex| [&here[..4], &["--background", hex]].concat();
+    assert!(prints(&more("0102")).contains(" type=gray16 "));
+    fails(
+        &more("01"),
+        2,
+        "(the background has 1 bytes, a pixel of gray16 has 2)",
+    );
+}
+
+#[test]
+fn two_types_are_refused_and_named() {
+    let folder = Folder::new("two-types");
+    let far = gray16(0, 70_000, 6, 7);
+    let file = folder.write("two.czi", &mosaic(&[gray8(0, 0, 5, 5), far]));
+    let words = "refused 23 at ";
+    let named = "(tile 1 has gray16, tile 0 has gray8)";
+    for jobs in ["1", "2", "7"] {
+        fails(&["count", &file, "--jobs", jobs], 2, words);
+        fails(&["count", &file, "--jobs", jobs], 2, named);
+    }
+    // Two parts are refused: the first is said, however the jobs run.
+    let farther = gray16(0, 140_000, 6, 7);
+    let tiles = [gray8(0, 0, 5, 5), farther, far];
+    let three = folder.write("three.czi", &mosaic(&tiles));
+    let named_first = "(tile 2 has gray16, tile 0 has gray8)";
+    for _ in 0..20 {
+        fails(&["count", &three, "--jobs", "3"], 2, named_first);
+    }
+    let near = folder.write(
+        "near.czi",
+        &mosaic(&[gray8(0, 0, 5, 5), gray16(2, 2, 6, 7)]),
+    );
+    let out = folder.path("out");
+    for words in [words, named] {
+        fails(&["compose", &near, "--out", &out], 2, words);
+    }
+    let asked = "(tile 0 has gray8, asked for is gray16)";
+    fails(&["count", &near, "--type", "Gray16"], 2, asked);
+    assert_eq!(folder.names(), ["near.czi", "three.czi", "two.czi"]);
+}
+
+#[test]
+fn a_plane_of_many_rows_is_composed_in_parts() {
+    let folder = Folder::new("parts");
+    // Of 24 bytes a pixel and 65,536 columns, 512 MiB are 339 rows.
+    let tile = Tile {
+        pixel_type: 11,
+        bytes: 24,
+        ..gray8(0, 330, 9, 20)
+    };
+    let file = folder.write("a.czi", &mosaic(&[tile]));
+    let map = folder.path("map");
+    // 600,000 KiB of addresses hold 512 MiB, and not the plane.
+    let words = "ulimit -v 600000; czi compose \"$1\" --map \"$2\" --window 0,0,65536,400";
+    let (code, lines, err) = said(&shell(words, &[&file, &map]));
+    assert_eq!(code, 0, "{err}");
+    assert!(lines.starts_with("pixels=26214400\ncovered=180\nstored=180\n"));
+    let words = "ulimit -v 600000; czi count \"$1\" --window 0,0,65536,400 --jobs 1";
+    let (code, lines, err) = said(&shell(words, &[&file]));
+    assert_eq!(code, 0, "{err}");
+    assert!(
+        lines.starts_with("covered=180\npixels=26214400\nwindows=2\n"),
+        "{lines}"
+    );
+    let map = fs::read(map).unwrap();
+    let (head, rows) = map.split_at(b"P4\n65536 400\n".len());
+    assert_eq!(head, b"P4\n65536 400\n");
+    for (y, row) in rows.chunks(8192).enumerate() {
+        let wanted: &[u8] = if (330..350).contains(&y) {
+            &[0xFF, 0x80]
+        } else {
+            &[0, 0]
+        };
+        assert_eq!(&row[..2], wanted, "row {y}");
+        assert!(row[2..].iter().all(|byte| *byte == 0), "row {y}");
+    }
+}
+
+#[test]
+fn standard_output_is_an_output() {
+    let folder = Folder::new("standard");
+    let (file, out, map) = (sample("mosaic.czi"), folder.path("out"), folder.path("map"));
+    prints(&["compose", &file, "--out", &out, "--map", &map]);
+    let lines = "pixels=1204\ncovered=1174\nstored=1174\n";
+    for (option, path) in [("--out", &out), ("--map", &map)] {
+        let output = czi(&["compose", &file, option, "-"]);
+        assert_eq!(output.status.code(), Some(0));
+        assert_eq!(output.stdout, fs::read(path).unwrap());
+        let err = String::from_utf8(output.stderr).unwrap();
+        assert!(err.starts_with(lines), "{err}");
+    }
+    let output = czi(&["sample", "-"]);
+    assert_eq!(output.stdout, fs::read(&file).unwrap());
+    assert_eq!(output.stderr, b"6144 bytes written\n");
+    let line = "czi sample - 2>\"$2\" | czi compose - --out - 2>\"$2\" | cmp - \"$1\"";
+    let output = shell(line, &[&out, &folder.path("log")]);
+    assert_eq!(said(&output), (0, String::new(), String::new()));
+}
+
+#[test]
+fn parts_are_the_very_bytes() {
+    let folder = Folder::new("extract");
+    let file = sample("mosaic.czi");
+    let bytes = fs::read(&file).unwrap();
+    let extract = |part: &[&str]| {
+        let output = czi(&[&["extract", &file, "--out", "-"], part].concat());
+        assert_eq!(output.status.code(), Some(0), "{part:?}");
+        let told = format!("bytes={}\n", output.stdout.len());
+        assert_eq!(String::from_utf8(output.stderr).unwrap(), told);
+        output.stdout
+    };
+    let pixels = extract(&["--tile", "1", "--pixels"]);
+    assert_eq!(pixels, ::czi::tile_pixels(&bytes, 1).unwrap());
+    assert_eq!(pixels.len(), 24 * 16);
+    let metadata = extract(&["--tile=1", "--metadata"]);
+    assert_eq!(metadata, ::czi::tile_metadata(&bytes, 1).unwrap());
+    assert!(metadata.starts_with(b"<"));
+    let attachment = extract(&["--tile=1", "--tile-attachment"]);
+    assert_eq!(attachment, ::czi::tile_attachment(&bytes, 1).unwrap());
+    assert_eq!(attachment.len(), 115);
+    assert!(extract(&["--tile=0", "--tile-attachment"]).is_empty());
+    assert!(extract(&["--xml"]).starts_with(b"<ImageDocument>"));
+    assert!(extract(&["--xml-attachment"]).is_empty());
+    let attachment = extract(&["--attachment", "0"]);
+    assert_eq!(attachment, ::czi::attachment_data(&bytes, 0).unwrap());
+    let out = folder.path("out");
+    let to_file = ["extract", &file, "--attachment=0", "--out", &out];
+    assert_eq!(prints(&to_file), "bytes=40\n");
+    assert_eq!(fs::read(&out).unwrap(), attachment);
+    let new = folder.path("new");
+    for (part, code, words) in [
+        (&["--tile", "4", "--pixels"][..], 2, "refused 24 at 0: "),
+        (&["--attachment", "1"], 2, "refused 24 at 0: "),
+        (&["--tile", "-1", "--pixels"], 1, "\"-1\""),
+        (&["--tile", "1"], 1, "one part is wanted"),
+        (&["--pixels"], 1, "one part is wanted"),
+        (&["--xml", "--pixels"], 1, "one part is wanted"),
+        (
+            &["--tile", "1", "--attachment", "1"],
+            1,
+            "one part is wanted",
+        ),
+        (&[], 1, "one part is wanted"),
+    ] {
+        fails(
+            &[&["extract", &file, "--out", &new], part].concat(),
+            code,
+            words,
+        );
+    }
+    fails(&["extract", &file, "--xml"], 1, "--out is missing");
+    assert_eq!(folder.names(), ["out"]);
+}
+
+#[test]
+fn words_behind_two_dashes_are_paths() {
+    let folder = Folder::new("dashes");
+    folder.mosaic("--json");
+    let line = "cd \"$1\" && czi judge -- --json";
+    let output = shell(line, &[&folder.path("")]);
+    assert_eq!(said(&output), (0, "accepted\n".to_string(), String::new()));
+    let output = shell("cd \"$1\" && czi judge --json", &[&folder.path("")]);
+    is_failure(&output, 1, "there is no option --json here");
+}
+
+/// Progress is for a terminal alone.
+#[test]
+fn nothing_but_the_answer_is_said() {
+    let file = sample("mosaic.czi");
+    prints(&["count", &file, "--window", "0,0,60000,60000"]);
+}
