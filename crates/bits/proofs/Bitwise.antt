@@ -52,7 +52,7 @@ ones-bit s i l = ap (λ (z : ℕ). eqb (z % 2) 1) (shr-shr 255 s (7 - i)) ∙ go
     go : Dec (s ≤ i) → eqb (255 / 2 ^ (s + (7 - i)) % 2) 1 ≡ leb s i
     go (yes h) = odd (s + (7 - i)) (omega arith) ∙ sym (le-leb s i h)
     go (no h) =
-        ap (λ (z : ℕ). eqb (z % 2) 1) (div-eq-of-lt (pow-mono {i = 8} {j = s + (7 - i)} (omega (arith, lt-of-not-le h))))
+        ap (λ (z : ℕ). eqb (z % 2) 1) (div-eq-of-lt (pow-mono {i = 8} {j = s + (7 - i)} (omega arith)))
         ∙ sym (lt-leb s i (lt-of-not-le h))
 
 -- the byte whose set bits are those from number s up to number t

@@ -52,7 +52,7 @@ or-marks m h k v l hv =
 
     there : (q : ℕ) → (q / 8 ≡ k → ⊥) → Dec (q < 8 * k + 8) → (ltb q (8 * k + 8) && (leb (8 * k) q && bitIn v (q % 8))) ≡ false
     there q e (yes b) = rw (lt-leb (8 * k) q (omega arith)) (and-false (ltb q (8 * k + 8)))
-    there q e (no b) = rw (le-ltb q (8 * k + 8) (omega (arith, lt-of-not-le b)))
+    there q e (no b) = rw (le-ltb q (8 * k + 8) (omega arith))
 
 -- ---- ranges
 
@@ -82,7 +82,7 @@ module _ (m : List ℕ) (h : Bytes m) where
     where
       joins : (q : ℕ) → Dec (q < b) → ((ltb q c && leb b q) || ((ltb q b && leb a q) || bit m q)) ≡ ((ltb q c && leb a q) || bit m q)
       joins q (yes l) = rw (lt-ltb q c (omega arith), lt-leb b q l, lt-ltb q b l)
-      joins q (no l) = rw (le-leb b q (omega (arith, lt-of-not-le l)), le-ltb q b (omega (arith, lt-of-not-le l)), le-leb a q (omega (arith, lt-of-not-le l)))
+      joins q (no l) = rw (le-leb b q (omega arith), le-ltb q b (omega arith), le-leb a q (omega arith))
 
   -- the same by equations: m′ is marked up to b, and m″ is m′ marked from there up to c
   pub range-then : {m′ m″ : List ℕ} (a b b′ c : ℕ) → a ≤ b → b ≡ b′ → b′ ≤ c → m′ ≡ mark b (λ q. leb a q) m → m″ ≡ mark c (λ q. leb b′ q) m′
@@ -103,13 +103,13 @@ module _ (m : List ℕ) (h : Bytes m) where
       same q (yes a) (yes b) (yes c) (yes d) =
           rw (lt-ltb q (8 * k + 8) a, le-leb (8 * k) q b, le-leb s (q % 8) c, lt-ltb (q % 8) t d, lt-ltb q (8 * k + t) (omega arith), le-leb (8 * k + s) q (omega arith))
       same q (yes a) (yes b) (yes c) (no d) =
-          rw (lt-ltb q (8 * k + 8) a, le-leb (8 * k) q b, le-leb s (q % 8) c, le-ltb (q % 8) t (omega (arith, lt-of-not-le d)), le-ltb q (8 * k + t) (omega (arith, lt-of-not-le d)))
+          rw (lt-ltb q (8 * k + 8) a, le-leb (8 * k) q b, le-leb s (q % 8) c, le-ltb (q % 8) t (omega arith), le-ltb q (8 * k + t) (omega arith))
       same q (yes a) (yes b) (no c) d =
-          rw (lt-ltb q (8 * k + 8) a, le-leb (8 * k) q b, lt-leb s (q % 8) (lt-of-not-le c), lt-leb (8 * k + s) q (omega (arith, lt-of-not-le c)))
+          rw (lt-ltb q (8 * k + 8) a, le-leb (8 * k) q b, lt-leb s (q % 8) (lt-of-not-le c), lt-leb (8 * k + s) q (omega arith))
           (sym (and-false (ltb q (8 * k + t))))
       same q (yes a) (no b) c d =
-          rw (lt-ltb q (8 * k + 8) a, lt-leb (8 * k) q (lt-of-not-le b), lt-leb (8 * k + s) q (omega (arith, lt-of-not-le b))) (sym (and-false (ltb q (8 * k + t))))
-      same q (no a) b c d = rw (le-ltb q (8 * k + 8) (omega (arith, lt-of-not-le a)), le-ltb q (8 * k + t) (omega (arith, lt-of-not-le a)))
+          rw (lt-ltb q (8 * k + 8) a, lt-leb (8 * k) q (lt-of-not-le b), lt-leb (8 * k + s) q (omega arith)) (sym (and-false (ltb q (8 * k + t))))
+      same q (no a) b c d = rw (le-ltb q (8 * k + 8) (omega arith), le-ltb q (8 * k + t) (omega arith))
 
   -- one bit
   pub range-one : (p : ℕ) → mark (8 * (p / 8) + 8) (λ q. leb (8 * (p / 8)) q && bitIn (128 / 2 ^ (p % 8)) (q % 8)) m ≡ mark (p + 1) (λ q. leb p q) m

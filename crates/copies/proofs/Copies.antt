@@ -21,8 +21,8 @@ by-range {P} a e k f g h = go (decLt k a) (decLt k e)
   where
     go : Dec (k < a) → Dec (k < e) → P
     go (yes l) x = f l
-    go (no l) (yes r) = g (omega (arith, lt-of-not-le l)) r
-    go (no l) (no r) = h (omega (arith, lt-of-not-le r))
+    go (no l) (yes r) = g (omega arith) r
+    go (no l) (no r) = h (omega arith)
 
 pub range-in : (a e k : ℕ) → a ≤ k → k < e → (leb a k && ltb k e) ≡ true
 range-in a e k h l = rw (le-leb a k h, lt-ltb k e l)

@@ -72,16 +72,16 @@ zeros-end : (z : ℕ) → z < 256 → (i : ℕ) → i < leadingZeros 8 z → bit
 unfolding bitIn
 zeros-end z h i l =
     let t = leading-length 8 z h in
-    ap (λ (x : ℕ). eqb (x % 2) 1) (div-eq-of-lt (lt-of-lt-of-le (t .2) (pow-mono {i = t .0} {j = 7 - i} (omega (arith, t .1)))))
+    ap (λ (x : ℕ). eqb (x % 2) 1) (div-eq-of-lt (lt-of-lt-of-le (t .2) (pow-mono {i = t .0} {j = 7 - i} (omega arith))))
 
 ones-start : (z : ℕ) → z < 256 → leadingZeros 8 z < 8 → bitIn z (leadingZeros 8 z) ≡ true
 unfolding bitIn
 ones-start z h l =
     let t = leading-length 8 z h in
-    let e : 7 - leadingZeros 8 z ≡ t .0 - 1 = omega (arith, t .1) in
-    let p : 2 ^ t .0 ≡ 2 ^ (t .0 - 1) * 2 = ap (λ (k : ℕ). 2 ^ k) {x = t .0} {y = suc (t .0 - 1)} (omega (arith, t .1)) ∙ pow-suc 2 (t .0 - 1) in
+    let e : 7 - leadingZeros 8 z ≡ t .0 - 1 = omega arith in
+    let p : 2 ^ t .0 ≡ 2 ^ (t .0 - 1) * 2 = ap (λ (k : ℕ). 2 ^ k) {x = t .0} {y = suc (t .0 - 1)} (omega arith) ∙ pow-suc 2 (t .0 - 1) in
     ap (λ (x : ℕ). eqb (x % 2) 1)
-    (ap (λ (k : ℕ). z / 2 ^ k) e ∙ div-eq-of-lt-le {k = 1} (2 ^ (t .0 - 1)) (omega (arith, t .3, p)) (omega (arith, t .2, p)))
+    (ap (λ (k : ℕ). z / 2 ^ k) e ∙ div-eq-of-lt-le {k = 1} (2 ^ (t .0 - 1)) (omega arith) (omega arith))
 
 -- the leading zeros of what is left end at the first one from number a on
 run-zeros : (y : ℕ) → y < 256 → (a : ℕ) → a < 8 → Run (bitIn y) a 8 false (leadingZeros 8 (y % 2 ^ (8 - a)))
@@ -138,7 +138,7 @@ not-full x h v r n o = go (decLt r 8)
     go : Dec (r < 8) → r < 8
     go (yes l) = l
     go (no l) =
-        absurd (eqb-false x (full v) n (same-bits x (full v) h (full-lt v) (λ i c. o .same i (omega arith) (omega (arith, lt-of-not-le l)) ∙ sym (full-bits v i c))))
+        absurd (eqb-false x (full v) n (same-bits x (full v) h (full-lt v) (λ i c. o .same i (omega arith) (omega arith) ∙ sym (full-bits v i c))))
 
 -- eight such bytes are such a word, and so it has no others
 full-bytes : (n : ℕ) (v : Bool) → Bytes (replicate n (full v))
@@ -173,14 +173,14 @@ full-word-more m h v k i f e j a b = go (decLt j i)
   where
     go : Dec (j < i) → getD m j 0 ≡ full v
     go (yes l) = f j a l
-    go (no l) = word-bytes m h v i e j (omega (arith, lt-of-not-le l)) b
+    go (no l) = word-bytes m h v i e j (omega arith) b
 
 pub full-byte-more : (m : List ℕ) (v : Bool) (k i : ℕ) → Full m v k i → getD m i 0 ≡ full v → Full m v k (i + 1)
 full-byte-more m v k i f e j a b = go (ℕ-discrete j i)
   where
     go : Dec (j ≡ i) → getD m j 0 ≡ full v
     go (yes z) = ap (λ (n : ℕ). getD m n 0) z ∙ e
-    go (no n) = f j a (omega (arith, n))
+    go (no n) = f j a (omega arith)
 
 -- their run ends at another byte, or at the end
 module _ (m : List ℕ) (v : Bool) (k e i : ℕ) (a : k ≤ i) (b : i ≤ e) (f : Full m v k i) where
@@ -198,10 +198,10 @@ module _ (m : List ℕ) (v : Bool) (k e i : ℕ) (a : k ≤ i) (b : i ≤ e) (f 
 -- a run within byte k
 pub run-at : (m : List ℕ) (k a s : ℕ) (v : Bool) (r : ℕ) → s ≡ 8 * k + a → Run (bitIn (getD m k 0)) a 8 v r → Run (bit m) s (8 * k + 8) v (8 * k + r)
 run-at m k a s v r e o = record {
-  start = omega (arith, o .start);
-  end = omega (arith, o .end);
+  start = omega arith;
+  end = omega arith;
   same = λ i b c.
-      ap (bit m) {x = i} {y = 8 * k + (i - 8 * k)} (omega arith) ∙ sym (cell k (i - 8 * k) (omega (arith, o .end)) m)
+      ap (bit m) {x = i} {y = 8 * k + (i - 8 * k)} (omega arith) ∙ sym (cell k (i - 8 * k) (omega arith) m)
       ∙ o .same (i - 8 * k) (omega arith) (omega arith);
   stops = λ c. sym (cell k r (omega arith) m) ∙ o .stops (omega arith);
 }
@@ -218,11 +218,11 @@ module _ (m : List ℕ) (h : Bytes m) (k j e : ℕ) (v : Bool) (o : Run (λ i. e
   passed = bytes-run m k j v (o .same)
 
   pub run-bytes : 8 * j ≡ e → Run (bit m) (8 * k) e v e
-  run-bytes z = run-on passed (omega (arith, o .start)) (run-empty z)
+  run-bytes z = run-on passed (omega arith) (run-empty z)
 
   module _ (r : ℕ) (q : Run (bitIn (getD m j 0)) 0 8 v r) where
     pub run-over : e - 8 * j ≤ r → Run (bit m) (8 * k) e v e
-    run-over l = run-on passed (omega (arith, o .start)) (run-cut (run-at m j 0 (8 * j) v r (omega arith) q) (omega (arith, o .end)) (omega arith))
+    run-over l = run-on passed (omega arith) (run-cut (run-at m j 0 (8 * j) v r (omega arith) q) (omega arith) (omega arith))
 
     pub run-in-last : r < e - 8 * j → Run (bit m) (8 * k) e v (8 * j + r)
     run-in-last l =
@@ -230,9 +230,9 @@ module _ (m : List ℕ) (h : Bytes m) (k j e : ℕ) (v : Bool) (o : Run (λ i. e
       where
         before : Dec (r < 8) → r < 8
         before (yes b) = b
-        before (no b) = not-full (getD m j 0) (h j) v r (o .stops (omega (arith, lt-of-not-le b, q .end))) q
+        before (no b) = not-full (getD m j 0) (h j) v r (o .stops (omega arith)) q
 
 -- a run from bit a of byte k on, through the byte's end
 pub run-through : (m : List ℕ) (k a s e : ℕ) (v : Bool) (r r′ : ℕ) → s ≡ 8 * k + a → Run (bitIn (getD m k 0)) a 8 v r → 8 ≤ r → Run (bit m) (8 * (k + 1)) e v r′ → Run (bit m) s e v r′
 run-through m k a s e v r r′ z o l q =
-    run-on (λ p b c. run-at m k a s v r z o .same p b (omega arith)) (omega (arith, o .start, o .end)) q
+    run-on (λ p b c. run-at m k a s v r z o .same p b (omega arith)) (omega arith) q

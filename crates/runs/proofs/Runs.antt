@@ -16,9 +16,9 @@ pub run-only : {f : ℕ → Bool} {a e : ℕ} {v : Bool} {r r′ : ℕ} → Run 
 run-only {f} {a} {e} {v} {r} {r′} x y = go (decLt r r′) (decLt r′ r)
   where
     go : Dec (r < r′) → Dec (r′ < r) → r ≡ r′
-    go (yes l) d = absurd (not-not-same v (sym (y .same r (x .start) l) ∙ x .stops (omega (arith, y .end))))
-    go (no l) (yes l′) = absurd (not-not-same v (sym (x .same r′ (y .start) l′) ∙ y .stops (omega (arith, x .end))))
-    go (no l) (no l′) = omega (arith, lt-of-not-le l, lt-of-not-le l′)
+    go (yes l) d = absurd (not-not-same v (sym (y .same r (x .start) l) ∙ x .stops (omega arith)))
+    go (no l) (yes l′) = absurd (not-not-same v (sym (x .same r′ (y .start) l′) ∙ y .stops (omega arith)))
+    go (no l) (no l′) = omega arith
 
 -- where there is no number, the run ends at once
 pub run-empty : {f : ℕ → Bool} {a e : ℕ} {v : Bool} → a ≡ e → Run f a e v e
@@ -45,7 +45,7 @@ run-stops x l h = record { start = x .start; end = h; same = x .same; stops = λ
 -- values v, and then a run of v
 pub run-on : {f : ℕ → Bool} {a c e : ℕ} {v : Bool} {r : ℕ} → ((i : ℕ) → a ≤ i → i < c → f i ≡ v) → a ≤ c → Run f c e v r → Run f a e v r
 run-on {f} {a} {c} {e} {v} {r} s l x = record {
-  start = omega (arith, x .start);
+  start = omega arith;
   end = x .end;
   same = λ i b h. go i b h (decLt i c);
   stops = x .stops;
@@ -53,4 +53,4 @@ run-on {f} {a} {c} {e} {v} {r} s l x = record {
   where
     go : (i : ℕ) → a ≤ i → i < r → Dec (i < c) → f i ≡ v
     go i b h (yes d) = s i b d
-    go i b h (no d) = x .same i (omega (arith, lt-of-not-le d)) h
+    go i b h (no d) = x .same i (omega arith) h

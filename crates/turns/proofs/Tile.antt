@@ -11,9 +11,9 @@ use lib.Dec.{ltb, leb}
 use lib.ListN.{getD, drop}
 use lib.Seq.{getD-drop}
 use borrow.Author.Tests.{lt-ltb, le-ltb, le-leb, leb-true, ltb-true}
-use Rattle.plane.specs.Tiles.{area, colOf, rowOf, givesAt}
+use Rattle.plane.specs.Tiles.{colOf, rowOf, givesAt}
 use Rattle.plane.specs.Paint.{bit}
-use Rattle.plane.specs.Cuts.{Inside, Meets}
+use Rattle.plane.specs.Cuts.{Inside}
 use Rattle.plane.proofs.Tests.{by-bool}
 use Rattle.paint.specs.Row.{validAt}
 use Rattle.turns.specs.TileOf.{windowOf, covers, validIn, tileOf}
@@ -85,37 +85,16 @@ module _ (rank : ℕ) (w a : Rect) (b : ℕ) (src : List ℕ) (k : Mask) (lines 
   -- of a row's pixels, those outside the clip; and rows above and below it
   pub off-row : (c : Clip) → Clipped w a c → (y x : ℕ) → x < w .width → (w .left + x < c .left) ⊎ (c .right ≤ w .left + x)
       → givesAt (windowOf w) (tileOf rank a b src k lines) (y * w .width + x) ≡ false
-  off-row c e y x h o = off (y * w .width + x) (λ i. ⊎-elim (λ l. less i l) (λ l. more i l) o)
-    where
-      less : Inside (windowOf a) (colOf (windowOf w) (y * w .width + x)) (rowOf (windowOf w) (y * w .width + x)) → w .left + x < c .left → ⊥
-      less i l = omega (arith, at-col y x h, i .left, e .left)
-
-      more : Inside (windowOf a) (colOf (windowOf w) (y * w .width + x)) (rowOf (windowOf w) (y * w .width + x)) → c .right ≤ w .left + x → ⊥
-      more i l = omega (arith, at-col y x h, i .right, e .right)
+  off-row c e y x h o = off (y * w .width + x) (λ i. let z = at-col y x h in ⊎-elim (λ l. omega arith) (λ l. omega arith) o)
 
   pub off-above : (c : Clip) → Clipped w a c → 1 ≤ w .width → (n p : ℕ) → n + w .top ≤ c .top → p < n * w .width → givesAt (windowOf w) (tileOf rank a b src k lines) p ≡ false
-  off-above c e hw n p l h = off p (λ i. omega (arith, i .top, e .top, div-lt-iff-lt-mul hw .1 h))
+  off-above c e hw n p l h = off p (λ i. omega (arith, div-lt-iff-lt-mul hw .1 h))
 
   pub off-below : (c : Clip) → Clipped w a c → 1 ≤ w .width → (n p : ℕ) → c .bottom ≤ n + w .top → n * w .width ≤ p → p < w .height * w .width
       → givesAt (windowOf w) (tileOf rank a b src k lines) p ≡ false
-  off-below c e hw n p l h h′ = off p (λ i. omega (arith, i .bottom, e .bottom, div-lt-iff-lt-mul hw .1 h′, le-div-iff-mul-le hw .1 h))
+  off-below c e hw n p l h h′ = off p (λ i. omega (arith, div-lt-iff-lt-mul hw .1 h′, le-div-iff-mul-le hw .1 h))
 
   -- nothing at all where they do not meet
-  pub apart : 1 ≤ w .width → (Meets (windowOf a) (windowOf w) → ⊥) → (p : ℕ) → p < area (windowOf w) → givesAt (windowOf w) (tileOf rank a b src k lines) p ≡ false
-  apart hw n p h =
-      off p (λ i. n (record {
-        left = omega (arith, i .right);
-        right = omega (arith, i .left, mod-lt p hw);
-        top = omega (arith, i .bottom);
-        bottom = omega (arith, i .top, div-lt-iff-lt-mul hw .1 h);
-      }))
-
   pub off-all : (c : Clip) → Clipped w a c → 1 ≤ w .width → (c .right ≤ c .left) ⊎ (c .bottom ≤ c .top) → (p : ℕ) → p < w .height * w .width
       → givesAt (windowOf w) (tileOf rank a b src k lines) p ≡ false
-  off-all c e hw o p h = off p (λ i. ⊎-elim (λ l. side i l) (λ l. foot i l) o)
-    where
-      side : Inside (windowOf a) (colOf (windowOf w) p) (rowOf (windowOf w) p) → c .right ≤ c .left → ⊥
-      side i l = omega (arith, i .left, i .right, e .left, e .right, mod-lt p hw)
-
-      foot : Inside (windowOf a) (colOf (windowOf w) p) (rowOf (windowOf w) p) → c .bottom ≤ c .top → ⊥
-      foot i l = omega (arith, i .top, i .bottom, e .top, e .bottom, div-lt-iff-lt-mul hw .1 h)
+  off-all c e hw o p h = off p (λ i. ⊎-elim (λ l. omega (arith, mod-lt p hw)) (λ l. omega (arith, div-lt-iff-lt-mul hw .1 h)) o)

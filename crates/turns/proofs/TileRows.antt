@@ -9,6 +9,8 @@ use mathlib.Core.List.{List}
 use mathlib.Core.Bool.{Bool, true, false, _&&_, true≢false}
 use lib.Dec.{ltb}
 use lib.ListN.{length, getD, drop}
+use mir.Syntax.{w64}
+use mir.Val.{Fits}
 use borrow.Author.Tests.{ltb-true}
 use Rattle.plane.specs.Tiles.{area, colOf, rowOf, givesAt}
 use Rattle.plane.specs.Turns.{turnGives}
@@ -88,17 +90,17 @@ module _ {t₀ m₀ : List ℕ} {w a : Rect} {src : List ℕ} {b : ℕ} {k : Mas
   pub numbers : y < stop → Numbers t₀ m₀ w a src k b n x col y t m g
   numbers l =
       let hb = o .room .room .bytes in
-      let row : y + w .top - a .top < a .height = omega (arith, o .at-stop, o .high) in
-      let cols : x + n ≤ a .width = omega (arith, o .at-col, o .at-x, o .at-n) in
-      let wide : col + n ≤ w .width = omega (arith, o .at-n) in
-      let fits : y * w .width + w .width ≤ w .height * w .width = part-end y (w .height) (w .width) (omega (arith, o .at-stop)) in
+      let row : y + w .top - a .top < a .height = omega arith in
+      let cols : x + n ≤ a .width = omega arith in
+      let wide : col + n ≤ w .width = omega arith in
+      let fits : y * w .width + w .width ≤ w .height * w .width = part-end y (w .height) (w .width) (omega arith) in
       let src-end : (y + w .top - a .top) * a .width + a .width ≤ a .height * a .width = part-end _ _ _ row in
       let all : w .height * w .width < 2 ^ 64 = lt-of-le-of-lt (le-trans (le-mul-of-pos-right (w .height * w .width) hb) (o .room .room .target)) (o .size) in
       let all-src : a .height * a .width < 2 ^ 64 = lt-of-le-of-lt (le-trans (le-mul-of-pos-right (a .height * a .width) hb) (o .room .source)) (o .sources) in
       let from : ((y + w .top - a .top) * a .width + x) * b + n * b ≤ length src =
       le-trans (rw (add-mul ((y + w .top - a .top) * a .width + x) n b) at (mul-le-mul-right b (more (y + w .top - a .top) src-end cols))) (o .room .source) in
       record {
-        above = omega (arith, o .high);
+        above = omega arith;
         row = row;
         fits = fits;
         width = wide;
@@ -109,34 +111,26 @@ module _ {t₀ m₀ : List ℕ} {w a : Rect} {src : List ℕ} {b : ℕ} {k : Mas
         map = rw rows-map (o .room .room .map);
         from = from;
         given = rw (o .done 0 .given) (count-le (y * w .width) (turnGives (kindOf q) (windowOf w) (tileOf 0 a b src k lines) m₀));
-        row-start = below-start (y * w .width) (w .height * w .width) fits all;
-        first = below-first (y * w .width) (w .height * w .width) fits wide all;
-        src-row = below-row ((y + w .top - a .top) * a .width) (a .height * a .width) src-end all-src;
-        src-pixel = below-pixel ((y + w .top - a .top) * a .width) (a .height * a .width) src-end cols all-src;
+        row-start = lt-of-le-of-lt (le-add-right _ col) (part (y * w .width) col fits (omega arith) all);
+        first = part (y * w .width) col fits (omega arith) all;
+        src-row = lt-of-le-of-lt (le-add-right _ x) (part ((y + w .top - a .top) * a .width) x src-end (omega arith) all-src);
+        src-pixel = part ((y + w .top - a .top) * a .width) x src-end (omega arith) all-src;
         src-byte = lt-of-le-of-lt (le-trans (le-add-right _ (n * b)) from) (o .sources);
         held = lt-of-le-of-lt (o .room .mask) (o .masks);
-        sum = omega (arith, o .at-stop, o .room .window-bottom);
+        sum = omega arith;
       }
     where
       more : (r : ℕ) → r * a .width + a .width ≤ a .height * a .width → x + n ≤ a .width → r * a .width + x + n ≤ a .height * a .width
       more r e f = omega arith
 
-      below-start : (p s : ℕ) → p + w .width ≤ s → s < 2 ^ 64 → p < 2 ^ 64
-      below-start p s e f = omega arith
-
-      below-first : (p s : ℕ) → p + w .width ≤ s → col + n ≤ w .width → s < 2 ^ 64 → p + col < 2 ^ 64
-      below-first p s e c f = omega arith
-
-      below-row : (p s : ℕ) → p + a .width ≤ s → s < 2 ^ 64 → p < 2 ^ 64
-      below-row p s e f = omega arith
-
-      below-pixel : (p s : ℕ) → p + a .width ≤ s → x + n ≤ a .width → s < 2 ^ 64 → p + x < 2 ^ 64
-      below-pixel p s e c f = omega arith
+      -- z past the start p of a part of v, the parts being s in all
+      part : (p z : ℕ) {v s : ℕ} → p + v ≤ s → z ≤ v → s < 2 ^ 64 → p + z < 2 ^ 64
+      part p z e c f = omega arith
 
   -- what the line painter asks
-  pub row-room : (l : y < stop) (e : MaskLine) → LineOf k (y + w .top - a .top) e
+  pub row-room : y < stop → {e : MaskLine} → LineOf k (y + w .top - a .top) e
       → StretchRoom t m (y * w .width + col) src (((y + w .top - a .top) * a .width + x) * b) b n (k .on) lines (e .start) (e .width) x
-  row-room l e f =
+  row-room l {e} f =
       let u = numbers l in
       record {
         bytes = o .room .room .bytes;
@@ -144,15 +138,15 @@ module _ {t₀ m₀ : List ℕ} {w a : Rect} {src : List ℕ} {b : ℕ} {k : Mas
         source = u .from;
         bits = le-trans (pixels u) (u .map);
         start = by-bool (k .on && ltb r (k .height)) (λ c. rw (f .start, c) (omega (arith, lines-fit c))) (λ c. rw (f .start, c) (omega arith));
-        mask = λ _. by-bool (k .on && ltb r (k .height)) (λ c. rw (f .start, f .width, c) (omega (arith, lines-fit c, o .room .stride))) (λ c. rw (f .width, c) (omega arith));
-        columns = lt-of-le-of-lt (u .columns) (omega (arith, o .room .tile-right));
+        mask = λ _. by-bool (k .on && ltb r (k .height)) (λ c. rw (f .start, f .width, c) (omega (arith, lines-fit c))) (λ c. rw (f .width, c) (omega arith));
+        columns = lt-of-le-of-lt (u .columns) (omega arith);
       }
     where
       r : ℕ
       r = y + w .top - a .top
 
       pixels : Numbers t₀ m₀ w a src k b n x col y t m g → y * w .width + col + n ≤ w .height * w .width
-      pixels u = omega (arith, u .fits, u .width)
+      pixels u = omega arith
 
       lines-fit : (k .on && ltb r (k .height)) ≡ true → r * k .stride + k .stride ≤ length lines
       lines-fit c = le-trans (part-end r (k .height) (k .stride) (below (k .on) c)) (o .room .mask)
@@ -162,10 +156,10 @@ module _ {t₀ m₀ : List ℕ} {w a : Rect} {src : List ℕ} {b : ℕ} {k : Mas
           below false d = absurd (true≢false (sym d))
 
   -- a row more
-  pub rows-more : (l : y < stop) (e : MaskLine) → LineOf k (y + w .top - a .top) e → {t′ m′ : List ℕ} {r : ℕ}
+  pub rows-more : y < stop → {e : MaskLine} → LineOf k (y + w .top - a .top) e → {t′ m′ : List ℕ} {r : ℕ}
       → StretchPainted t m (y * w .width + col) src (((y + w .top - a .top) * a .width + x) * b) b n (k .on) lines (e .start) (e .width) x q t′ m′ r
       → Rows t₀ m₀ w a src b k lines q n x col stop (y + 1) t′ m′ (g + r)
-  rows-more l e f {t′} {m′} {r} c = record {
+  rows-more l {e} f {t′} {m′} {r} c = record {
     room = o .room;
     bytes = o .bytes;
     size = o .size;
@@ -176,7 +170,7 @@ module _ {t₀ m₀ : List ℕ} {w a : Rect} {src : List ℕ} {b : ℕ} {k : Mas
     at-n = o .at-n;
     at-stop = o .at-stop;
     low = omega arith;
-    high = omega (arith, o .high);
+    high = omega arith;
     done = λ rank. step rank;
   }
     where
@@ -191,18 +185,18 @@ module _ {t₀ m₀ : List ℕ} {w a : Rect} {src : List ℕ} {b : ℕ} {k : Mas
           → givesAt (windowOf w) (tileOf rank a b src k lines) p ≡ false
       across rank p h h′ d =
           subst (λ (z : ℕ). givesAt (windowOf w) (tileOf rank a b src k lines) z ≡ false) (add-sub-of-le h)
-          (off-row rank w a b src k lines (clipOf w a) (clipped w a) y (p - y * w .width) (omega (arith, next)) d)
+          (off-row rank w a b src k lines (clipOf w a) (clipped w a) y (p - y * w .width) (omega arith) d)
 
       inside : (i : ℕ) → i < n → Inside (windowOf a) (w .left + (col + i)) (w .top + y)
       inside i h = record {
-        left = omega (arith, o .at-col);
-        right = omega (arith, o .at-n);
-        top = omega (arith, o .high);
-        bottom = omega (arith, o .at-stop);
+        left = omega arith;
+        right = omega arith;
+        top = omega arith;
+        bottom = omega arith;
       }
 
       same-col : (i : ℕ) → w .left + (col + i) - a .left ≡ x + i
-      same-col i = omega (arith, o .at-col, o .at-x)
+      same-col i = omega arith
 
       same-row : w .top + y - a .top ≡ y + w .top - a .top
       same-row = omega arith
@@ -211,7 +205,7 @@ module _ {t₀ m₀ : List ℕ} {w a : Rect} {src : List ℕ} {b : ℕ} {k : Mas
       valid rank i h =
           valid-line k lines (y + w .top - a .top) e f (x + i)
           ∙ sym (ap (λ (z : ℕ). givesAt (windowOf w) (tileOf rank a b src k lines) z) (add-assoc (y * w .width) col i)
-          ∙ here rank w a b src k lines y (col + i) (omega (arith, u .width)) (inside i h)
+          ∙ here rank w a b src k lines y (col + i) (omega arith) (inside i h)
           ∙ ap₂ (λ (c r : ℕ). validIn k lines c r) (same-col i) same-row)
 
       source : (rank i j : ℕ) → i < n → j < b
@@ -219,7 +213,7 @@ module _ {t₀ m₀ : List ℕ} {w a : Rect} {src : List ℕ} {b : ℕ} {k : Mas
           ≡ tileOf rank a b src k lines .byte (colOf (windowOf w) (y * w .width + col + i)) (rowOf (windowOf w) (y * w .width + col + i)) j
       source rank i j h hj =
           sym (ap (λ (z : ℕ). tileOf rank a b src k lines .byte (colOf (windowOf w) z) (rowOf (windowOf w) z) j) (add-assoc (y * w .width) col i)
-          ∙ byte-here rank w a b src k lines y (col + i) j (omega (arith, u .width))
+          ∙ byte-here rank w a b src k lines y (col + i) j (omega arith)
           ∙ ap (λ (z : ℕ). getD src z 0) (place (w .top + y - a .top) (w .left + (col + i) - a .left) (y + w .top - a .top) same-row (same-col i)))
         where
           place : (v′ u′ v : ℕ) → v′ ≡ v → u′ ≡ x + i → (v′ * a .width + u′) * b + j ≡ (v * a .width + x) * b + i * b + j
@@ -227,60 +221,70 @@ module _ {t₀ m₀ : List ℕ} {w a : Rect} {src : List ℕ} {b : ℕ} {k : Mas
 
       step : (rank : ℕ) → Done (kindOf q) (windowOf w) b (tileOf rank a b src k lines) t₀ m₀ ((y + 1) * w .width) t′ m′ (g + r)
       step rank =
-          done-more (kindOf q) (windowOf w) b (o .room .room .bytes) (tileOf rank a b src k lines) t₀ m₀ (o .bytes) (y * w .width + col + n) ((y + 1) * w .width)
-          (done-stretch q (windowOf w) b (o .room .room .bytes) (tileOf rank a b src k lines) t₀ m₀ (o .bytes) (y * w .width + col) n src (((y + w .top - a .top) * a .width + x) * b) (k .on) lines
-          (e .start) (e .width) x
-          (done-more (kindOf q) (windowOf w) b (o .room .room .bytes) (tileOf rank a b src k lines) t₀ m₀ (o .bytes) (y * w .width) (y * w .width + col) (o .done rank) (omega arith)
-          (λ p h h′. across rank p h (omega (arith, next, u .width)) (inl (omega (arith, o .at-col)))))
+          done-more hb (o .bytes)
+          (done-stretch hb (o .bytes)
+          (done-more hb (o .bytes) (o .done rank) (omega arith) (λ p h h′. across rank p h (omega arith) (inl (omega arith))))
           c (omega (arith, o .room .room .map, u .fits, u .width)) (valid rank) (source rank))
-          (omega (arith, next, u .width))
-          (λ p h h′. across rank p (omega arith) h′ (inr (omega (arith, o .at-n))))
+          (omega arith)
+          (λ p h h′. across rank p (omega arith) h′ (inr (omega arith)))
+        where
+          hb : 1 ≤ b
+          hb = o .room .room .bytes
+
+  -- what the rows give in all
+  pub rows-sum : y < stop → {first from : ℕ} {masked : Bool} {line mw x′ : ℕ} {t′ m′ : List ℕ} {r : ℕ}
+      → StretchPainted t m first src from b n masked lines line mw x′ q t′ m′ r → Fits w64 (g + r)
+  rows-sum l {first} {from} {masked} {line} {mw} {x′} {r = r} c =
+      let u = numbers l in
+      let e : r ≤ n = rw (c .given) (count-le n (rowGives q m first masked (drop line lines) mw x′)) in
+      omega arith
 
 -- before the first row, and after the last
-pub rows-none : (t₀ m₀ : List ℕ) (w a : Rect) (src : List ℕ) (b : ℕ) (k : Mask) (lines : List ℕ) (q : Bool) (c : Clip)
+pub rows-none : {t₀ m₀ : List ℕ} {w a : Rect} {src : List ℕ} {b : ℕ} {k : Mask} {lines : List ℕ} {q : Bool} {c : Clip}
     → TurnRoom t₀ m₀ w a src b k lines → Bytes m₀ → length t₀ < 2 ^ 64 → length src < 2 ^ 64 → length lines < 2 ^ 64 → Clipped w a c → c .left < c .right → c .top < c .bottom
     → Rows t₀ m₀ w a src b k lines q (c .right - c .left) (c .left - a .left) (c .left - w .left) (c .bottom - w .top) (c .top - w .top) t₀ m₀ 0
-rows-none t₀ m₀ w a src b k lines q c r h l l′ l″ e s s′ = record {
+rows-none {w = w} {a} {src} {b} {k} {lines} {c = c} r h l l′ l″ e s s′ = record {
   room = r;
   bytes = h;
   size = l;
   sources = l′;
   masks = l″;
-  at-col = omega (arith, e .left);
-  at-x = omega (arith, e .left);
-  at-n = omega (arith, e .left, e .right);
-  at-stop = omega (arith, e .top, e .bottom);
+  at-col = omega arith;
+  at-x = omega arith;
+  at-n = omega arith;
+  at-stop = omega arith;
   low = omega arith;
-  high = omega (arith, e .top);
+  high = omega arith;
   done = λ rank.
-      done-more (kindOf q) (windowOf w) b (r .room .bytes) (tileOf rank a b src k lines) t₀ m₀ h 0 ((c .top - w .top) * w .width)
-      (done-none (kindOf q) (windowOf w) b (r .room .bytes) (tileOf rank a b src k lines) t₀ m₀ h) (omega arith)
+      done-more (r .room .bytes) h (done-none (r .room .bytes) h) (omega arith)
       (λ p _ i. off-above rank w a b src k lines c e (r .room .wide) (c .top - w .top) p (omega (arith, e .top)) i);
 }
 
-turned : (t₀ m₀ : List ℕ) (w a : Rect) (src : List ℕ) (b : ℕ) (k : Mask) (lines : List ℕ) (q : Bool) {t m : List ℕ} {g : ℕ}
+turned : {t₀ m₀ : List ℕ} {w a : Rect} {src : List ℕ} {b : ℕ} {k : Mask} {lines : List ℕ} {q : Bool} {t m : List ℕ} {g : ℕ}
     → ((rank : ℕ) → Done (kindOf q) (windowOf w) b (tileOf rank a b src k lines) t₀ m₀ (w .height * w .width) t m g)
     → Turned t₀ m₀ w a src b k lines q t m g
-turned t₀ m₀ w a src b k lines q d = record { turned = λ rank stored. done-all (kindOf q) (windowOf w) b (tileOf rank a b src k lines) t₀ m₀ stored (d rank) }
+turned d = record { turned = λ rank stored. done-all stored (d rank) }
 
 pub rows-all : {t₀ m₀ : List ℕ} {w a : Rect} {src : List ℕ} {b : ℕ} {k : Mask} {lines : List ℕ} {q : Bool} {n x col stop y : ℕ} {t m : List ℕ} {g : ℕ}
     → Rows t₀ m₀ w a src b k lines q n x col stop y t m g → stop ≤ y → Turned t₀ m₀ w a src b k lines q t m g
-rows-all {t₀} {m₀} {w} {a} {src} {b} {k} {lines} {q} {n} {x} {col} {stop} {y} o l =
-    turned t₀ m₀ w a src b k lines q
-    (λ rank. done-more (kindOf q) (windowOf w) b (o .room .room .bytes) (tileOf rank a b src k lines) t₀ m₀ (o .bytes) (y * w .width) (w .height * w .width) (o .done rank)
-    (mul-le-mul-right (w .width) (omega (arith, o .at-stop, o .low)))
+rows-all {w = w} {a} {src} {b} {k} {lines} {y = y} o l =
+    turned
+    (λ rank. done-more (o .room .room .bytes) (o .bytes) (o .done rank)
+    (mul-le-mul-right (w .width) (omega arith))
     (λ p h h′. off-below rank w a b src k lines (clipOf w a) (clipped w a) (o .room .room .wide) y p (omega (arith, o .at-stop)) h h′))
 
-pub rows-apart : (t₀ m₀ : List ℕ) (w a : Rect) (src : List ℕ) (b : ℕ) (k : Mask) (lines : List ℕ) (q : Bool) (c : Clip)
+-- no row at all: the tile is beside the window, or above or below it
+apart : {t₀ m₀ : List ℕ} {w a : Rect} {src : List ℕ} {b : ℕ} {k : Mask} {lines : List ℕ} {q : Bool} {c : Clip}
     → TurnRoom t₀ m₀ w a src b k lines → Bytes m₀ → Clipped w a c → (c .right ≤ c .left) ⊎ (c .bottom ≤ c .top) → Turned t₀ m₀ w a src b k lines q t₀ m₀ 0
-rows-apart t₀ m₀ w a src b k lines q c r h e d =
-    turned t₀ m₀ w a src b k lines q
-    (λ rank. done-more (kindOf q) (windowOf w) b (r .room .bytes) (tileOf rank a b src k lines) t₀ m₀ h 0 (w .height * w .width)
-    (done-none (kindOf q) (windowOf w) b (r .room .bytes) (tileOf rank a b src k lines) t₀ m₀ h) (omega arith)
+apart {w = w} {a} {src} {b} {k} {lines} {c = c} r h e d =
+    turned
+    (λ rank. done-more (r .room .bytes) h (done-none (r .room .bytes) h) (omega arith)
     (λ p _ i. off-all rank w a b src k lines c e (r .room .wide) d p i))
 
--- a line gives at most its pixels
-pub stretch-given : {t m : List ℕ} {first : ℕ} {src : List ℕ} {from b n : ℕ} {masked : Bool} {lines : List ℕ} {line mw x : ℕ} {q : Bool} {t′ m′ : List ℕ} {r : ℕ}
-    → StretchPainted t m first src from b n masked lines line mw x q t′ m′ r → r ≤ n
-stretch-given {m = m} {first = first} {n = n} {masked = masked} {lines = lines} {line = line} {mw = mw} {x = x} {q = q} c =
-    rw (c .given) (count-le n (rowGives q m first masked (drop line lines) mw x))
+module _ {t₀ m₀ : List ℕ} {w a : Rect} {src : List ℕ} {b : ℕ} {k : Mask} {lines : List ℕ} {q : Bool} (c : Clip)
+    (r : TurnRoom t₀ m₀ w a src b k lines) (h : Bytes m₀) (e : Clipped w a c) where
+  pub rows-beside : c .right ≤ c .left → Turned t₀ m₀ w a src b k lines q t₀ m₀ 0
+  rows-beside l = apart r h e (inl l)
+
+  pub rows-off : c .bottom ≤ c .top → Turned t₀ m₀ w a src b k lines q t₀ m₀ 0
+  rows-off l = apart r h e (inr l)

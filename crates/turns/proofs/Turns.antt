@@ -1,7 +1,8 @@
 -- A turn, as far as pixel number n: its rows' stretches make it up, one after the other.
 use mathlib.Core.Path.{_≡_, refl, sym, ap, ap₂, _∙_}
+use mathlib.Core.Logic.{by-cases}
 use Prim.Native.Nat.{ℕ, _+_, _*_, _-_, _≤_, _<_}
-use native.Mathlib.Nat.{lt-of-not-le, add-sub-of-le, mul-le-mul-right, le-trans, le-add-right, add-zero}
+use native.Mathlib.Nat.{add-sub-of-le, mul-le-mul-right, le-trans, le-add-right, add-zero}
 use native.Mathlib.Decide.{decLt}
 use native.Mathlib.Omega.{arith}
 use mathlib.Core.List.{List}
@@ -48,7 +49,7 @@ kind-or true w t m p = go (givesAt w t p) (bit m p)
     go false true = refl
     go false false = refl
 
-module _ (k : Kind) (w : Window) (b : ℕ) (hb : 1 ≤ b) (t : Tile) (t₀ m₀ : List ℕ) (hm : Bytes m₀) where
+module _ {k : Kind} {w : Window} {b : ℕ} {t : Tile} {t₀ m₀ : List ℕ} (hb : 1 ≤ b) (hm : Bytes m₀) where
   pub done-none : Done k w b t t₀ m₀ 0 t₀ m₀ 0
   unfolding sum
   done-none = record {
@@ -58,15 +59,15 @@ module _ (k : Kind) (w : Window) (b : ℕ) (hb : 1 ≤ b) (t : Tile) (t₀ m₀ 
   }
 
   -- pixels that the tile does not give are done with nothing
-  pub done-more : (n n′ : ℕ) {t₁ m₁ : List ℕ} {g : ℕ} → Done k w b t t₀ m₀ n t₁ m₁ g → n ≤ n′ → ((p : ℕ) → n ≤ p → p < n′ → givesAt w t p ≡ false)
+  pub done-more : {n n′ : ℕ} {t₁ m₁ : List ℕ} {g : ℕ} → Done k w b t t₀ m₀ n t₁ m₁ g → n ≤ n′ → ((p : ℕ) → n ≤ p → p < n′ → givesAt w t p ≡ false)
       → Done k w b t t₀ m₀ n′ t₁ m₁ g
-  done-more n n′ o l off = record {
+  done-more {n} {n′} o l off = record {
     target = o .target ∙ paint-eq n′ b on px t₀ hb (paint n b on px t₀) (paint-length n b on px t₀)
-        (λ p j hp hj hk. paint-pixel n b on px t₀ p j hj hk ∙ ap (λ (z : Bool). cond z (px p j) (getD t₀ (p * b + j) 0)) (at p hp (decLt p n)))
+        (λ p j hp hj hk. paint-pixel n b on px t₀ p j hj hk ∙ ap (λ (z : Bool). cond z (px p j) (getD t₀ (p * b + j) 0)) (at p hp))
         (λ i h _. paint-past n b on px t₀ i (le-trans (mul-le-mul-right b l) h));
     map = o .map ∙ same-map (mark n on m₀) (mark n′ on m₀) (mark-length n on m₀ ∙ sym (mark-length n′ on m₀)) (mark-bytes n on m₀ hm) (mark-bytes n′ on m₀ hm)
         (λ p h. let h′ : p < 8 * length m₀ = rw (mark-length n on m₀) at h in
-        mark-bit n on m₀ p h′ ∙ ap (λ (z : Bool). z || bit m₀ p) (both p (decLt p n) (decLt p n′)) ∙ sym (mark-bit n′ on m₀ p h′));
+        mark-bit n on m₀ p h′ ∙ ap (λ (z : Bool). z || bit m₀ p) (both p) ∙ sym (mark-bit n′ on m₀ p h′));
     given = o .given ∙ counted;
   }
     where
@@ -76,13 +77,11 @@ module _ (k : Kind) (w : Window) (b : ℕ) (hb : 1 ≤ b) (t : Tile) (t₀ m₀ 
       px : ℕ → ℕ → ℕ
       px p j = t .byte (colOf w p) (rowOf w p) j
 
-      at : (p : ℕ) → p < n′ → Dec (p < n) → (ltb p n && on p) ≡ on p
-      at p h (yes i) = rw (lt-ltb p n i)
-      at p h (no i) = rw (turn-off k w t m₀ p (off p (omega (arith, lt-of-not-le i)) h), le-ltb p n (omega (arith, lt-of-not-le i)))
+      at : (p : ℕ) → p < n′ → (ltb p n && on p) ≡ on p
+      at p h = by-cases (decLt p n) (λ i. rw (lt-ltb p n i)) (λ i. rw (turn-off k w t m₀ p (off p (omega arith) h), le-ltb p n (omega arith)))
 
-      both : (p : ℕ) → Dec (p < n) → Dec (p < n′) → (ltb p n && on p) ≡ (ltb p n′ && on p)
-      both p i (yes h) = at p h i ∙ (rw (lt-ltb p n′ h))
-      both p i (no h) = rw (le-ltb p n (omega (arith, lt-of-not-le h)), le-ltb p n′ (omega (arith, lt-of-not-le h)))
+      both : (p : ℕ) → (ltb p n && on p) ≡ (ltb p n′ && on p)
+      both p = by-cases (decLt p n′) (λ h. at p h ∙ (rw (lt-ltb p n′ h))) (λ h. rw (le-ltb p n (omega arith), le-ltb p n′ (omega arith)))
 
       counted : count n on ≡ count n′ on
       counted =
@@ -90,21 +89,21 @@ module _ (k : Kind) (w : Window) (b : ℕ) (hb : 1 ≤ b) (t : Tile) (t₀ m₀ 
           ∙ ap (λ (z : ℕ). count n on + z) (sum-ext (n′ - n) _ (λ i. 0) (λ i h. ap one (turn-off k w t m₀ (n + i) (off (n + i) (omega arith) (omega arith)))) ∙ sum-zero (n′ - n))
           ∙ add-zero (count n on))
 
-module _ (q : Bool) (w : Window) (b : ℕ) (hb : 1 ≤ b) (t : Tile) (t₀ m₀ : List ℕ) (hm : Bytes m₀) where
+module _ {q : Bool} {w : Window} {b : ℕ} {t : Tile} {t₀ m₀ : List ℕ} (hb : 1 ≤ b) (hm : Bytes m₀) where
   -- a stretch
-  pub done-stretch : (first n : ℕ) (src : List ℕ) (from : ℕ) (masked : Bool) (lines : List ℕ) (line mw x : ℕ) {t₁ m₁ t₂ m₂ : List ℕ} {g r : ℕ}
+  pub done-stretch : {first n : ℕ} {src : List ℕ} {from : ℕ} {masked : Bool} {lines : List ℕ} {line mw x : ℕ} {t₁ m₁ t₂ m₂ : List ℕ} {g r : ℕ}
       → Done (kindOf q) w b t t₀ m₀ first t₁ m₁ g
       → StretchPainted t₁ m₁ first src from b n masked lines line mw x q t₂ m₂ r
       → first + n ≤ 8 * length m₀
       → ((i : ℕ) → i < n → validAt masked (drop line lines) mw (x + i) ≡ givesAt w t (first + i))
       → ((i j : ℕ) → i < n → j < b → getD src (from + i * b + j) 0 ≡ t .byte (colOf w (first + i)) (rowOf w (first + i)) j)
       → Done (kindOf q) w b t t₀ m₀ (first + n) t₂ m₂ (g + r)
-  done-stretch first n src from masked lines line mw x {t₁} {m₁} {t₂} {m₂} {g} {r} o c room valid bytes = record {
+  done-stretch {first} {n} {src} {from} {masked} {lines} {line} {mw} {x} {t₁} {m₁} o c room valid bytes = record {
     target = c .target ∙ paint-eq (first + n) b on px t₀ hb (paint (first + n) b on₂ px₂ t₁) (paint-length (first + n) b on₂ px₂ t₁ ∙ length₁)
         (λ p j hp hj hk.
         paint-pixel (first + n) b on₂ px₂ t₁ p j hj (rw length₁ hk)
         ∙ ap (λ (z : ℕ). cond (ltb p (first + n) && on₂ p) (px₂ p j) z) (ap (λ (z : List ℕ). getD z (p * b + j) 0) (o .target) ∙ paint-pixel first b on px t₀ p j hj hk)
-        ∙ at p j hp hj (decLt p first))
+        ∙ at p j hp hj)
         (λ i h _. paint-past (first + n) b on₂ px₂ t₁ i h ∙ ap (λ (z : List ℕ). getD z i 0) (o .target)
         ∙ paint-past first b on px t₀ i (le-trans (mul-le-mul-right b (le-add-right first n)) h));
     map = c .map ∙ ap (λ (z : List ℕ). mark (first + n) valid₂ z) (o .map)
@@ -112,7 +111,7 @@ module _ (q : Bool) (w : Window) (b : ℕ) (hb : 1 ≤ b) (t : Tile) (t₀ m₀ 
         (λ p h. let h′ : p < 8 * length m₀ = rw (mark-length (first + n) valid₂ (mark first on m₀), mark-length first on m₀) at h in
         mark-bit (first + n) valid₂ (mark first on m₀) p (rw (mark-length first on m₀) h′)
         ∙ ap (λ (z : Bool). (ltb p (first + n) && valid₂ p) || z) (mark-bit first on m₀ p h′)
-        ∙ bits p (decLt p first) (decLt p (first + n))
+        ∙ bits p
         ∙ sym (mark-bit (first + n) on m₀ p h′));
     given = ap₂ (λ (y z : ℕ). y + z) (o .given) (c .given ∙ sum-ext n _ _ (λ i h. ap one (gave i h))) ∙ sym (sum-add first n _);
   }
@@ -147,36 +146,29 @@ module _ (q : Bool) (w : Window) (b : ℕ) (hb : 1 ≤ b) (t : Tile) (t₀ m₀ 
           (still i h)
           ∙ kind-gives q w t m₀ (first + i)
 
-      at : (p j : ℕ) → p < first + n → j < b → Dec (p < first)
-          → cond (ltb p (first + n) && on₂ p) (px₂ p j) (cond (ltb p first && on p) (px p j) (getD t₀ (p * b + j) 0)) ≡ cond (on p) (px p j) (getD t₀ (p * b + j) 0)
-      at p j hp hj (yes h) = rw (lt-ltb p (first + n) hp, lt-leb first p h, lt-ltb p first h)
-      at p j hp hj (no h) =
-          let e : first + (p - first) ≡ p = omega (arith, lt-of-not-le h) in
-          rw (
-            lt-ltb p (first + n) hp,
-            le-leb first p (omega (arith, lt-of-not-le h)),
-            le-ltb p first (omega (arith, lt-of-not-le h)),
-            gave (p - first) (omega (arith, lt-of-not-le h)),
-            bytes (p - first) j (omega (arith, lt-of-not-le h)) hj,
-            e,
-          )
+      there : (p : ℕ) → first ≤ p → first + (p - first) ≡ p
+      there p h = omega arith
 
-      bits : (p : ℕ) → Dec (p < first) → Dec (p < first + n)
-          → ((ltb p (first + n) && valid₂ p) || ((ltb p first && on p) || bit m₀ p)) ≡ ((ltb p (first + n) && on p) || bit m₀ p)
-      bits p (yes h) i = rw (lt-ltb p (first + n) (omega arith), lt-leb first p h, lt-ltb p first h)
-      bits p (no h) (yes i) =
-          let e : first + (p - first) ≡ p = omega (arith, lt-of-not-le h) in
-          rw (
-            lt-ltb p (first + n) i,
-            le-leb first p (omega (arith, lt-of-not-le h)),
-            le-ltb p first (omega (arith, lt-of-not-le h)),
-            valid (p - first) (omega (arith, lt-of-not-le h)),
-            e,
-          ) (kind-or q w t m₀ p)
-      bits p (no h) (no i) = rw (le-ltb p (first + n) (omega (arith, lt-of-not-le i)), le-ltb p first (omega (arith, lt-of-not-le h)))
+      at : (p j : ℕ) → p < first + n → j < b
+          → cond (ltb p (first + n) && on₂ p) (px₂ p j) (cond (ltb p first && on p) (px p j) (getD t₀ (p * b + j) 0)) ≡ cond (on p) (px p j) (getD t₀ (p * b + j) 0)
+      at p j hp hj =
+          by-cases (decLt p first)
+          (λ h. rw (lt-ltb p (first + n) hp, lt-leb first p h, lt-ltb p first h))
+          (λ h.
+          let l : first ≤ p = omega arith in
+          rw (lt-ltb p (first + n) hp, le-leb first p l, le-ltb p first l, gave (p - first) (omega arith), bytes (p - first) j (omega arith) hj, there p l))
+
+      bits : (p : ℕ) → ((ltb p (first + n) && valid₂ p) || ((ltb p first && on p) || bit m₀ p)) ≡ ((ltb p (first + n) && on p) || bit m₀ p)
+      bits p =
+          by-cases (decLt p first) (λ h. rw (lt-ltb p (first + n) (omega arith), lt-leb first p h, lt-ltb p first h))
+          (λ h.
+          let l : first ≤ p = omega arith in
+          by-cases (decLt p (first + n))
+          (λ i. rw (lt-ltb p (first + n) i, le-leb first p l, le-ltb p first l, valid (p - first) (omega arith), there p l) (kind-or q w t m₀ p))
+          (λ i. rw (le-ltb p (first + n) (omega arith), le-ltb p first l)))
 
 -- all of it
-pub done-all : (k : Kind) (w : Window) (b : ℕ) (t : Tile) (t₀ m₀ : List ℕ) (stored : ℕ) {t₁ m₁ : List ℕ} {g : ℕ} → Done k w b t t₀ m₀ (area w) t₁ m₁ g
+pub done-all : {k : Kind} {w : Window} {b : ℕ} {t : Tile} {t₀ m₀ : List ℕ} (stored : ℕ) {t₁ m₁ : List ℕ} {g : ℕ} → Done k w b t t₀ m₀ (area w) t₁ m₁ g
     → _≡_ {A = Painting} (record { target = t₁; map = m₁; stored = stored + g }) (turn k w b t (record { target = t₀; map = m₀; stored = stored }))
 unfolding turn
-done-all k w b t t₀ m₀ stored o i = record { target = o .target i; map = o .map i; stored = stored + o .given i }
+done-all stored o i = record { target = o .target i; map = o .map i; stored = stored + o .given i }

@@ -5,19 +5,10 @@ use Rattle.bits.proofs.Ranges.{or-marks}
 use Rattle.bits.proofs.or_byte.Statement.{statement}
 use Rattle.bits.proofs.or_byte.Tie as tie
 
-slice-read-map : tie.Need-slice-read-map
-slice-read-map c = search needs
-
-slice-write-map : tie.Need-slice-write-map
-slice-write-map c = search needs
-
-same-length : tie.Need-same-length
-same-length c = search needs
-
 returns : tie.Need-returns
 returns c =
     let a = c .before .args in
     or-marks (a .map .now) (λ k. omega (arith, c .slice-known .given k)) (a .k) (a .v) (c .before .pre) (omega arith)
 
 pub or-byte-spec : {M : Type 1} → statement M
-or-byte-spec = tie.close (tie.spec slice-read-map slice-write-map same-length returns)
+or-byte-spec = tie.close (tie.spec (λ c. search needs) (λ c. search needs) (λ c. search needs) returns)

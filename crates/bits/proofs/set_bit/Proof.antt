@@ -6,18 +6,6 @@ use Rattle.bits.proofs.Ranges.{range-one}
 use Rattle.bits.proofs.set_bit.Statement.{statement}
 use Rattle.bits.proofs.set_bit.Tie as tie
 
-cast-or-byte : tie.Need-cast-or-byte
-cast-or-byte c = search needs
-
-shr-or-byte : tie.Need-shr-or-byte
-shr-or-byte c = search needs
-
-or-byte-requires : tie.Need-or-byte-requires
-or-byte-requires c κs = search needs
-
-same-length : tie.Need-same-length
-same-length c = search needs
-
 returns : tie.Need-returns
 returns c =
     let o = c .before .before in
@@ -25,4 +13,5 @@ returns c =
     o .or-byte .ensures ∙ range-one (s .before .args .map .now) (λ k. omega (arith, s .slice-known .given k)) (s .before .args .p)
 
 pub set-bit-spec : {M : Type 1} → statement M
-set-bit-spec = tie.close (tie.spec cast-or-byte shr-or-byte or-byte-requires same-length returns)
+set-bit-spec =
+    tie.close (tie.spec (λ c. search needs) (λ c. search needs) (λ c κs. search needs) (λ c. search needs) returns)

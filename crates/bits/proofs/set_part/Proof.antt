@@ -17,15 +17,6 @@ returns c =
     sym (marked-none (a .map .now) (bytes (c .before)) (8 * a .k))
     ∙ marked-ext (a .map .now) (omega arith) (omega arith)
 
-ones-between-requires : tie.Need-ones-between-requires
-ones-between-requires c κs = search needs
-
-or-byte-requires : tie.Need-or-byte-requires
-or-byte-requires c κs = search needs
-
-same-length : tie.Need-same-length
-same-length c = search needs
-
 returns-2 : tie.Need-returns-2
 returns-2 c =
     let o = c .before .before in
@@ -36,5 +27,4 @@ returns-2 c =
     ∙ range-part (a .map .now) (bytes s) (a .k) (a .s) (a .t) (omega arith) (r .ones-between .result) (r .ones-between .ensures)
 
 pub set-part-spec : {M : Type 1} → statement M
-set-part-spec =
-    tie.close (tie.spec returns ones-between-requires or-byte-requires same-length returns-2)
+set-part-spec = tie.close (tie.spec returns (λ c κs. search needs) (λ c κs. search needs) (λ c. search needs) returns-2)

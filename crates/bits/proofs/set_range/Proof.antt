@@ -11,32 +11,11 @@ use Rattle.bits.proofs.set_range.Tie as tie
 bytes : (s : tie.After-slice-known) → Bytes (s .before .args .map .now)
 bytes s k = omega (arith, s .slice-known .given k)
 
-set-part-requires : tie.Need-set-part-requires
-set-part-requires c κs = search needs
-
-same-length : tie.Need-same-length
-same-length c = search needs
-
 returns : tie.Need-returns
 returns c =
     let p = c .before .before in
     let a = p .before .before .before .before .args in
     p .set-part .ensures ∙ marked-ext (a .map .now) (omega arith) (omega arith)
-
-set-part-requires-2 : tie.Need-set-part-requires-2
-set-part-requires-2 c κs = search needs
-
-add-set-whole : tie.Need-add-set-whole
-add-set-whole c = search needs
-
-set-whole-requires : tie.Need-set-whole-requires
-set-whole-requires c κs = search needs
-
-set-part-requires-3 : tie.Need-set-part-requires-3
-set-part-requires-3 c κs = search needs
-
-same-length-2 : tie.Need-same-length-2
-same-length-2 c = search needs
 
 returns-2 : tie.Need-returns-2
 returns-2 c =
@@ -57,12 +36,12 @@ pub set-range-spec : {M : Type 1} → statement M
 set-range-spec =
     tie.close
     (tie.spec
-    set-part-requires
-    same-length
+    (λ c κs. search needs)
+    (λ c. search needs)
     returns
-    set-part-requires-2
-    add-set-whole
-    set-whole-requires
-    set-part-requires-3
-    same-length-2
+    (λ c κs. search needs)
+    (λ c. search needs)
+    (λ c κs. search needs)
+    (λ c κs. search needs)
+    (λ c. search needs)
     returns-2)

@@ -19,18 +19,6 @@ abbrev μ-loop : tie.MeasureT-loop
 bytes : (s : tie.After-slice-known Inv-loop μ-loop) → Bytes (s .before .args .map .now)
 bytes s k = omega (arith, s .slice-known .given k)
 
-loop-holds : tie.Need-loop-holds Inv-loop μ-loop
-loop-holds c = (omega arith, omega arith, sym (marked-none _ (bytes c) _), refl)
-
-set-part-requires : tie.Need-set-part-requires Inv-loop μ-loop
-set-part-requires c κs = omega arith
-
-add-i : tie.Need-add-i Inv-loop μ-loop
-add-i c = omega arith
-
-loop-less : tie.Need-loop-less Inv-loop μ-loop
-loop-less c = omega arith
-
 loop-again : tie.Need-loop-again Inv-loop μ-loop
 loop-again c =
     let p = c .before .before in
@@ -44,9 +32,6 @@ loop-again c =
       p .set-part .kept .0 ∙ v .inv .3,
     )
 
-same-length : tie.Need-same-length Inv-loop μ-loop
-same-length c = c .before .loop .inv .3
-
 returns : tie.Need-returns Inv-loop μ-loop
 returns c =
     let v = c .before .loop in
@@ -58,10 +43,10 @@ set-whole-spec =
     (tie.spec
     Inv-loop
     μ-loop
-    loop-holds
-    set-part-requires
-    add-i
-    loop-less
+    (λ c. (omega arith, omega arith, sym (marked-none _ (bytes c) _), refl))
+    (λ c κs. omega arith)
+    (λ c. omega arith)
+    (λ c. omega arith)
     loop-again
-    same-length
+    (λ c. c .before .loop .inv .3)
     returns)

@@ -6,21 +6,6 @@ use Rattle.blank.proofs.Repeats.{pixel-fits, fill-uniform, fill-none, f
 use Rattle.blank.proofs.fill.Statement.{statement}
 use Rattle.blank.proofs.fill.Tie as tie
 
-mul-end : tie.Need-mul-end
-mul-end c = search needs
-
-uniform-requires : tie.Need-uniform-requires
-uniform-requires c κs = search needs
-
-shared-slice-read-fill-byte : tie.Need-shared-slice-read-fill-byte
-shared-slice-read-fill-byte c = search needs
-
-fill-byte-requires : tie.Need-fill-byte-requires
-fill-byte-requires c κs = search needs
-
-same-length : tie.Need-same-length
-same-length c = search needs
-
 returns : tie.Need-returns
 returns c =
     let u = c .before .before .before .before .before .before in
@@ -47,9 +32,6 @@ repeat-requires c κs =
     let f = pixel-fits (a .n) (a .b) (omega arith) in
     search needs
 
-same-length-2 : tie.Need-same-length-2
-same-length-2 c = search needs
-
 returns-3 : tie.Need-returns-3
 returns-3 c =
     let f = c .before .before .before .before .before .before in
@@ -62,14 +44,14 @@ pub fill-spec : {M : Type 1} → statement M
 fill-spec =
     tie.close
     (tie.spec
-    mul-end
-    uniform-requires
-    shared-slice-read-fill-byte
-    fill-byte-requires
-    same-length
+    (λ c. search needs)
+    (λ c κs. search needs)
+    (λ c. search needs)
+    (λ c κs. search needs)
+    (λ c. search needs)
     returns
     returns-2
     copy-few-requires
     repeat-requires
-    same-length-2
+    (λ c. search needs)
     returns-3)

@@ -15,18 +15,6 @@ Inv-loop dst₀ n v k₀ dst k = (k ≤ n) × (dst ≡ front (λ i. v) k dst₀)
 abbrev μ-loop : tie.MeasureT-loop
 μ-loop dst₀ n v k₀ dst k = n - k
 
-loop-holds : tie.Need-loop-holds Inv-loop μ-loop
-loop-holds c = (omega arith, sym (front-none _ _), refl)
-
-slice-write-dst : tie.Need-slice-write-dst Inv-loop μ-loop
-slice-write-dst c = omega arith
-
-add-k : tie.Need-add-k Inv-loop μ-loop
-add-k c = omega arith
-
-loop-less : tie.Need-loop-less Inv-loop μ-loop
-loop-less c = omega arith
-
 loop-again : tie.Need-loop-again Inv-loop μ-loop
 loop-again c =
     let v = c .before .loop in
@@ -35,9 +23,6 @@ loop-again c =
       ap (λ (l : List ℕ). set l (v .k) (a .v)) (v .inv .1) ∙ front-more (λ i. a .v) (v .k) (a .dst .now) (omega arith),
       length-set (v .dst) _ _ ∙ v .inv .2,
     )
-
-same-length : tie.Need-same-length Inv-loop μ-loop
-same-length c = c .before .loop .inv .2
 
 returns : tie.Need-returns Inv-loop μ-loop
 returns c =
@@ -50,10 +35,10 @@ fill-byte-spec =
     (tie.spec
     Inv-loop
     μ-loop
-    loop-holds
-    slice-write-dst
-    add-k
-    loop-less
+    (λ c. (omega arith, sym (front-none _ _), refl))
+    (λ c. omega arith)
+    (λ c. omega arith)
+    (λ c. omega arith)
     loop-again
-    same-length
+    (λ c. c .before .loop .inv .2)
     returns)

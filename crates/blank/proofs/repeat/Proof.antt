@@ -17,35 +17,11 @@ loop-holds c =
     let s = c .before in
     repeating-start (s .args .dst .now) (s .args .b) (s .args .end) (s .pre .0) (s .pre .1) (s .pre .2)
 
-sub-loop : tie.Need-sub-loop Inv-loop μ-loop
-sub-loop c = omega arith
-
-copy-within-requires : tie.Need-copy-within-requires Inv-loop μ-loop
-copy-within-requires c κs = search needs
-
-add-k : tie.Need-add-k Inv-loop μ-loop
-add-k c = omega arith
-
-wider-requires : tie.Need-wider-requires Inv-loop μ-loop
-wider-requires c κs = omega arith
-
-loop-less : tie.Need-loop-less Inv-loop μ-loop
-loop-less c = omega arith
-
 loop-again : tie.Need-loop-again Inv-loop μ-loop
 loop-again c =
     let m = c .before .before .before in
     let l = m .before .before .before in
     repeating-next (l .loop .inv) (l .before .before .pre .3) (omega arith) (m .copy-within .ensures) (c .wider .result) (c .wider .ensures)
-
-sub-copy-within : tie.Need-sub-copy-within Inv-loop μ-loop
-sub-copy-within c = omega arith
-
-copy-within-requires-2 : tie.Need-copy-within-requires-2 Inv-loop μ-loop
-copy-within-requires-2 c κs = search needs
-
-same-length : tie.Need-same-length Inv-loop μ-loop
-same-length c = search needs
 
 returns : tie.Need-returns Inv-loop μ-loop
 returns c =
@@ -60,13 +36,13 @@ repeat-spec =
     Inv-loop
     μ-loop
     loop-holds
-    sub-loop
-    copy-within-requires
-    add-k
-    wider-requires
-    loop-less
+    (λ c. omega arith)
+    (λ c κs. search needs)
+    (λ c. omega arith)
+    (λ c κs. omega arith)
+    (λ c. omega arith)
     loop-again
-    sub-copy-within
-    copy-within-requires-2
-    same-length
+    (λ c. omega arith)
+    (λ c κs. search needs)
+    (λ c. search needs)
     returns)

@@ -14,31 +14,13 @@ Inv-loop bg v k₀ k = (1 ≤ k) × (k ≤ length bg) × Alike bg k
 abbrev μ-loop : tie.MeasureT-loop
 μ-loop bg v k₀ k = length bg - k
 
-shared-slice-read-v : tie.Need-shared-slice-read-v Inv-loop μ-loop
-shared-slice-read-v c = omega arith
-
-loop-holds : tie.Need-loop-holds Inv-loop μ-loop
-loop-holds c = (omega arith, omega arith, alike-one (c .before .args .bg .now))
-
-shared-slice-read-if1 : tie.Need-shared-slice-read-if1 Inv-loop μ-loop
-shared-slice-read-if1 c = omega arith
-
 returns : tie.Need-returns Inv-loop μ-loop
 returns c = (λ e. let z : _≡_ {A = ℕ} 0 1 = cc in absurd (omega arith), λ a. absurd (c .if1 .taken (a (c .before .before .before .loop .k) (omega arith))))
-
-add-k : tie.Need-add-k Inv-loop μ-loop
-add-k c = omega arith
-
-loop-less : tie.Need-loop-less Inv-loop μ-loop
-loop-less c = omega arith
 
 loop-again : tie.Need-loop-again Inv-loop μ-loop
 loop-again c =
     let v = c .before .before .before .loop in
     (omega arith, omega arith, alike-more (c .before .before .before .before .before .args .bg .now) (v .k) (v .inv .2) (c .if1 .left))
-
-returns-2 : tie.Need-returns-2 Inv-loop μ-loop
-returns-2 c = (λ e k h. c .before .loop .inv .2 k (omega arith), λ _. refl)
 
 pub uniform-spec : {M : Type 1} → statement M
 uniform-spec =
@@ -46,11 +28,11 @@ uniform-spec =
     (tie.spec
     Inv-loop
     μ-loop
-    shared-slice-read-v
-    loop-holds
-    shared-slice-read-if1
+    (λ c. omega arith)
+    (λ c. (omega arith, omega arith, alike-one (c .before .args .bg .now)))
+    (λ c. omega arith)
     returns
-    add-k
-    loop-less
+    (λ c. omega arith)
+    (λ c. omega arith)
     loop-again
-    returns-2)
+    (λ c. (λ e k h. c .before .loop .inv .2 k (omega arith), λ _. refl)))

@@ -4,14 +4,10 @@ use borrow.Author.Tests.{le-leb, lt-leb}
 use Rattle.blank.proofs.wider.Statement.{statement}
 use Rattle.blank.proofs.wider.Tie as tie
 
-add-result : tie.Need-add-result
-add-result c = search needs
-
-returns : tie.Need-returns
-returns c = simp (le-leb _ _ (c .if1 .taken))
-
-returns-2 : tie.Need-returns-2
-returns-2 c = simp (lt-leb _ _ (c .if1 .left))
-
 pub wider-spec : {M : Type 1} → statement M
-wider-spec = tie.close (tie.spec add-result returns returns-2)
+wider-spec =
+    tie.close
+    (tie.spec
+    (λ c. search needs)
+    (λ c. simp (le-leb _ _ (c .if1 .taken)))
+    (λ c. simp (lt-leb _ _ (c .if1 .left))))

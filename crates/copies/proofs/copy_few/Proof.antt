@@ -6,15 +6,6 @@ use Rattle.copies.proofs.Moves.{moved-same}
 use Rattle.copies.proofs.copy_few.Statement.{statement}
 use Rattle.copies.proofs.copy_few.Tie as tie
 
-sub-shift : tie.Need-sub-shift
-sub-shift c = search needs
-
-shift-requires : tie.Need-shift-requires
-shift-requires c κs = search needs
-
-same-length : tie.Need-same-length
-same-length c = search needs
-
 returns : tie.Need-returns
 returns c =
     let s = c .before .before in
@@ -22,4 +13,4 @@ returns c =
     s .shift .ensures ∙ moved-same (a .dst .now) (a .src .now) (a .a) (a .e) (omega arith)
 
 pub copy-few-spec : {M : Type 1} → statement M
-copy-few-spec = tie.close (tie.spec sub-shift shift-requires same-length returns)
+copy-few-spec = tie.close (tie.spec (λ c. search needs) (λ c κs. search needs) (λ c. search needs) returns)

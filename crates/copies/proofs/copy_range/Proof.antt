@@ -16,21 +16,6 @@ Inv-loop dst₀ src a e k₀ dst k = (a ≤ k) × (k ≤ e) × (dst ≡ copied d
 abbrev μ-loop : tie.MeasureT-loop
 μ-loop dst₀ src a e k₀ dst k = e - k
 
-loop-holds : tie.Need-loop-holds Inv-loop μ-loop
-loop-holds c = (omega arith, omega arith, sym (copied-none _ _ _), refl)
-
-sub-loop : tie.Need-sub-loop Inv-loop μ-loop
-sub-loop c = omega arith
-
-add-next : tie.Need-add-next Inv-loop μ-loop
-add-next c = omega arith
-
-move-block-requires : tie.Need-move-block-requires Inv-loop μ-loop
-move-block-requires c κs = search needs
-
-loop-less : tie.Need-loop-less Inv-loop μ-loop
-loop-less c = omega arith
-
 loop-again : tie.Need-loop-again Inv-loop μ-loop
 loop-again c =
     let m = c .before .before in
@@ -42,12 +27,6 @@ loop-again c =
           ∙ copied-on (a .dst .now) (a .src .now) (a .a) (v .k) (v .k + blockSize) (v .inv .0) (omega arith),
       search needs,
     )
-
-move-block-requires-2 : tie.Need-move-block-requires-2 Inv-loop μ-loop
-move-block-requires-2 c κs = search needs
-
-same-length : tie.Need-same-length Inv-loop μ-loop
-same-length c = search needs
 
 returns : tie.Need-returns Inv-loop μ-loop
 returns c =
@@ -63,12 +42,12 @@ copy-range-spec =
     (tie.spec
     Inv-loop
     μ-loop
-    loop-holds
-    sub-loop
-    add-next
-    move-block-requires
-    loop-less
+    (λ c. (omega arith, omega arith, sym (copied-none _ _ _), refl))
+    (λ c. omega arith)
+    (λ c. omega arith)
+    (λ c κs. search needs)
+    (λ c. omega arith)
     loop-again
-    move-block-requires-2
-    same-length
+    (λ c κs. search needs)
+    (λ c. search needs)
     returns)

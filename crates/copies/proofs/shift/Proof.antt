@@ -15,27 +15,6 @@ Inv-loop dst₀ src p q n i₀ dst i = (i ≤ n) × (dst ≡ moved dst₀ src p 
 abbrev μ-loop : tie.MeasureT-loop
 μ-loop dst₀ src p q n i₀ dst i = n - i
 
-loop-holds : tie.Need-loop-holds Inv-loop μ-loop
-loop-holds c = (omega arith, sym (moved-none _ _ _ _), refl)
-
-add-dst : tie.Need-add-dst Inv-loop μ-loop
-add-dst c = omega arith
-
-shared-slice-read-dst : tie.Need-shared-slice-read-dst Inv-loop μ-loop
-shared-slice-read-dst c = omega arith
-
-add-dst-2 : tie.Need-add-dst-2 Inv-loop μ-loop
-add-dst-2 c = omega arith
-
-slice-write-dst : tie.Need-slice-write-dst Inv-loop μ-loop
-slice-write-dst c = omega arith
-
-add-i : tie.Need-add-i Inv-loop μ-loop
-add-i c = omega arith
-
-loop-less : tie.Need-loop-less Inv-loop μ-loop
-loop-less c = omega arith
-
 loop-again : tie.Need-loop-again Inv-loop μ-loop
 loop-again c =
     let v = c .before .before .loop in
@@ -44,9 +23,6 @@ loop-again c =
       ap (λ (d : List ℕ). set d (a .p + v .i) (getD (a .src .now) (a .q + v .i) 0)) (v .inv .1) ∙ moved-more (a .dst .now) (a .src .now) (a .p) (a .q) (v .i) (omega arith),
       length-set (v .dst) _ _ ∙ v .inv .2,
     )
-
-same-length : tie.Need-same-length Inv-loop μ-loop
-same-length c = c .before .loop .inv .2
 
 returns : tie.Need-returns Inv-loop μ-loop
 returns c =
@@ -59,13 +35,13 @@ shift-spec =
     (tie.spec
     Inv-loop
     μ-loop
-    loop-holds
-    add-dst
-    shared-slice-read-dst
-    add-dst-2
-    slice-write-dst
-    add-i
-    loop-less
+    (λ c. (omega arith, sym (moved-none _ _ _ _), refl))
+    (λ c. omega arith)
+    (λ c. omega arith)
+    (λ c. omega arith)
+    (λ c. omega arith)
+    (λ c. omega arith)
+    (λ c. omega arith)
     loop-again
-    same-length
+    (λ c. c .before .loop .inv .2)
     returns)

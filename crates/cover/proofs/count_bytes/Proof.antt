@@ -16,17 +16,8 @@ Inv-loop map n bytes sum₀ k₀ sum k = (k ≤ bytes) × (sum ≡ ones (8 * k) 
 abbrev μ-loop : tie.MeasureT-loop
 μ-loop map n bytes sum₀ k₀ sum k = bytes - k
 
-count-words-requires : tie.Need-count-words-requires Inv-loop μ-loop
-count-words-requires c κs = search needs
-
-mul-k : tie.Need-mul-k Inv-loop μ-loop
-mul-k c = search needs
-
 loop-holds : tie.Need-loop-holds Inv-loop μ-loop
 loop-holds c = (omega arith, c .count-words .ensures ∙ ap (λ (n : ℕ). ones n (c .before .before .args .map .now)) (omega arith))
-
-shared-slice-read-sum : tie.Need-shared-slice-read-sum Inv-loop μ-loop
-shared-slice-read-sum c = search needs
 
 -- the sum with byte k
 next : (c : tie.After-shared-slice-known2 Inv-loop μ-loop)
@@ -48,15 +39,6 @@ add-sum c =
     let l = c .before .before in
     omega (arith, next c, ones-bound (8 * (l .loop .k + 1)) (l .before .before .before .args .map .now))
 
-add-k : tie.Need-add-k Inv-loop μ-loop
-add-k c = search needs
-
-loop-less : tie.Need-loop-less Inv-loop μ-loop
-loop-less c = search needs
-
-loop-again : tie.Need-loop-again Inv-loop μ-loop
-loop-again c = (omega arith, next c)
-
 returns : tie.Need-returns Inv-loop μ-loop
 returns c =
     let l = c .before in
@@ -68,13 +50,13 @@ count-bytes-spec =
     (tie.spec
     Inv-loop
     μ-loop
-    count-words-requires
-    mul-k
+    (λ c κs. search needs)
+    (λ c. search needs)
     loop-holds
-    shared-slice-read-sum
+    (λ c. search needs)
     cast-sum
     add-sum
-    add-k
-    loop-less
-    loop-again
+    (λ c. search needs)
+    (λ c. search needs)
+    (λ c. (omega arith, next c))
     returns)

@@ -10,23 +10,8 @@ use Rattle.cover.proofs.Ones.{last-ones, ones-bound}
 use Rattle.cover.proofs.count_ones.Statement.{statement}
 use Rattle.cover.proofs.count_ones.Tie as tie
 
-count-bytes-requires : tie.Need-count-bytes-requires
-count-bytes-requires c κs = search needs
-
 returns : tie.Need-returns
 returns c = c .before .count-bytes .ensures ∙ ap (λ (n : ℕ). ones n (c .before .before .before .args .map .now)) (omega arith)
-
-shared-slice-read-result : tie.Need-shared-slice-read-result
-shared-slice-read-result c = search needs
-
-sub-result : tie.Need-sub-result
-sub-result c = search needs
-
-cast-result : tie.Need-cast-result
-cast-result c = search needs
-
-shr-result : tie.Need-shr-result
-shr-result c = search needs
 
 -- the sum with the high bits of the last byte
 last : (c : tie.After-shared-slice-known2)
@@ -44,19 +29,16 @@ cast-result-2 c = let a = c .before .before .before .before .args in omega (arit
 add-result : tie.Need-add-result
 add-result c = let a = c .before .before .before .before .args in omega (arith, last c, ones-bound (a .n) (a .map .now))
 
-returns-2 : tie.Need-returns-2
-returns-2 c = last c
-
 pub count-ones-spec : {M : Type 1} → statement M
 count-ones-spec =
     tie.close
     (tie.spec
-    count-bytes-requires
+    (λ c κs. search needs)
     returns
-    shared-slice-read-result
-    sub-result
-    cast-result
-    shr-result
+    (λ c. search needs)
+    (λ c. search needs)
+    (λ c. search needs)
+    (λ c. search needs)
     cast-result-2
     add-result
-    returns-2)
+    (λ c. last c))

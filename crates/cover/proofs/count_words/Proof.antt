@@ -16,15 +16,6 @@ Inv-loop map n words sum₀ k₀ sum k = (k ≤ words) × (sum ≡ ones (64 * k)
 abbrev μ-loop : tie.MeasureT-loop
 μ-loop map n words sum₀ k₀ sum k = words - k
 
-loop-holds : tie.Need-loop-holds Inv-loop μ-loop
-loop-holds c = (omega arith, no-bits _)
-
-mul-u64-at : tie.Need-mul-u64-at Inv-loop μ-loop
-mul-u64-at c = search needs
-
-u64-at-requires : tie.Need-u64-at-requires Inv-loop μ-loop
-u64-at-requires c κs = search needs
-
 -- the sum with word k
 next : (c : tie.After-u64-at Inv-loop μ-loop)
     → let l = c .before .before in
@@ -41,15 +32,6 @@ cast-sum c = let l = c .before .before in omega (arith, next c, ones-bound (64 *
 add-sum : tie.Need-add-sum Inv-loop μ-loop
 add-sum c = let l = c .before .before in omega (arith, next c, ones-bound (64 * (l .loop .k + 1)) (l .before .before .args .map .now))
 
-add-k : tie.Need-add-k Inv-loop μ-loop
-add-k c = search needs
-
-loop-less : tie.Need-loop-less Inv-loop μ-loop
-loop-less c = search needs
-
-loop-again : tie.Need-loop-again Inv-loop μ-loop
-loop-again c = (omega arith, next c)
-
 returns : tie.Need-returns Inv-loop μ-loop
 returns c =
     let l = c .before in
@@ -61,12 +43,12 @@ count-words-spec =
     (tie.spec
     Inv-loop
     μ-loop
-    loop-holds
-    mul-u64-at
-    u64-at-requires
+    (λ c. (omega arith, no-bits _))
+    (λ c. search needs)
+    (λ c κs. search needs)
     cast-sum
     add-sum
-    add-k
-    loop-less
-    loop-again
+    (λ c. search needs)
+    (λ c. search needs)
+    (λ c. (omega arith, next c))
     returns)

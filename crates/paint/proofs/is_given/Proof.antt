@@ -6,17 +6,8 @@ use borrow.Author.Needs.{needs}
 use Rattle.paint.proofs.is_given.Statement.{statement}
 use Rattle.paint.proofs.is_given.Tie as tie
 
-valid-at-requires : tie.Need-valid-at-requires
-valid-at-requires c κs = search needs
-
-returns : tie.Need-returns
-returns c = rw (sym (c .before .valid-at .ensures) ∙ not-true _ (c .if1 .taken))
-
 returns-2 : tie.Need-returns-2
 returns-2 c = rw (sym (c .before .before .valid-at .ensures) ∙ not-false _ (c .before .if1 .left), not-true (c .before .before .before .before .before .args .quick) (c .if2 .taken))
-
-bit-at-requires : tie.Need-bit-at-requires
-bit-at-requires c κs = search needs
 
 returns-3 : tie.Need-returns-3
 returns-3 c =
@@ -24,4 +15,11 @@ returns-3 c =
     rw (sym (e .before .valid-at .ensures) ∙ not-false _ (e .if1 .left), not-false (e .before .before .before .before .args .quick) (c .before .if2 .left)) (ap not (c .bit-at .ensures))
 
 pub is-given-spec : {M : Type 1} → statement M
-is-given-spec = tie.close (tie.spec valid-at-requires returns returns-2 bit-at-requires returns-3)
+is-given-spec =
+    tie.close
+    (tie.spec
+    (λ c κs. search needs)
+    (λ c. rw (sym (c .before .valid-at .ensures) ∙ not-true _ (c .if1 .taken)))
+    returns-2
+    (λ c κs. search needs)
+    returns-3)

@@ -20,7 +20,7 @@ abbrev μ-loop : tie.MeasureT-loop
 
 -- the map's elements are bytes
 bytes : (s : tie.After-shared-slice-known2 Inv-loop μ-loop) → Bytes (s .before .before .before .before .args .map .now)
-bytes s k = omega (arith, s .before .before .slice-known2 .given k)
+bytes s k = s .before .before .slice-known2 .given k .fits
 
 columns-end-requires : tie.Need-columns-end-requires Inv-loop μ-loop
 columns-end-requires c κs = let q = c .before .before .before .before .pre in (q .0 .order, q .0 .row .columns)
@@ -28,7 +28,7 @@ columns-end-requires c κs = let q = c .before .before .before .before .pre in (
 loop-holds : tie.Need-loop-holds Inv-loop μ-loop
 loop-holds c =
     let s = c .before in
-    (omega arith, c .columns-end .ensures .0, span-none _ _ _ (s .before .before .before .before .pre .0 .row .bytes) _ _ _ _ _ _ _ (bytes s) _)
+    (omega arith, c .columns-end .ensures .0, span-none (s .before .before .before .before .pre .0 .row .bytes) (bytes s))
 
 step-mask-requires : tie.Need-step-mask-requires Inv-loop μ-loop
 step-mask-requires c κs =
@@ -41,18 +41,15 @@ step-mask-requires c κs =
         order = v .inv .1;
         row = room-less (room-kept (q .0 .row) (span-target (v .inv .2)) (span-map (v .inv .2))) _ (e .columns-end .ensures .1);
       },
-      open-behind (v .inv .2) _ _ (q .1) (v .inv .0) (e .columns-end .ensures .1) (q .0 .row .bits),
-      e .columns-end .ensures .2 (omega (arith, v .inv .0, l .loop-test .taken)),
+      open-behind (v .inv .2) (q .1) (v .inv .0) (e .columns-end .ensures .1) (q .0 .row .bits),
+      e .columns-end .ensures .2 (omega arith),
     )
 
 add-given : tie.Need-add-given Inv-loop μ-loop
 add-given c =
     let p = c .before .before .before .before .before in
     let l = p .before .before .before in
-    omega (arith, span-given (l .before .loop .inv .2), span-given (p .step-mask .ensures .painted), p .step-mask .ensures .end)
-
-loop-less : tie.Need-loop-less Inv-loop μ-loop
-loop-less c = let p = c .before .before .before .before .before in omega (arith, p .step-mask .ensures .on, p .step-mask .ensures .end)
+    omega (arith, span-given (l .before .loop .inv .2), span-given (p .step-mask .ensures .painted))
 
 loop-again : tie.Need-loop-again Inv-loop μ-loop
 loop-again c =
@@ -62,16 +59,10 @@ loop-again c =
     let e = l .before .before in
     let r = e .before .before .before .before .before .pre .0 .row in
     let o = p .step-mask .ensures in (
-      omega (arith, v .inv .0, o .on),
+      omega arith,
       o .end,
-      span-then _ _ _ (r .bytes) _ _ _ _ _ _ _ (bytes (e .before)) _ _ _ (v .inv .0) (omega (arith, o .on)) (omega (arith, r .bits, o .end, e .columns-end .ensures .1)) (v .inv .2) (o .painted),
+      span-then (r .bytes) (bytes (e .before)) (v .inv .0) (omega arith) (omega arith) (v .inv .2) (o .painted),
     )
-
-same-length : tie.Need-same-length Inv-loop μ-loop
-same-length c = span-target (c .before .loop .inv .2)
-
-same-length-2 : tie.Need-same-length-2 Inv-loop μ-loop
-same-length-2 c = span-map (c .before .loop .inv .2)
 
 returns : tie.Need-returns Inv-loop μ-loop
 returns c =
@@ -80,8 +71,8 @@ returns c =
     let s = e .before in
     let r = s .before .before .before .before .pre .0 .row in
     let a = s .before .before .before .before .args in
-    span-rest _ _ _ (r .bytes) _ _ _ _ _ _ _ (bytes s) _ (v .k) _ (v .inv .0) (omega (arith, v .inv .1, e .columns-end .ensures .1)) (r .bits) (v .inv .2)
-    (λ p l h. inl (past-mask (a .line .now) (a .mw) (a .x + p) (omega (arith, e .columns-end .ensures .3 (omega (arith, c .loop-test .left, v .inv .1)), c .loop-test .left, v .inv .1))))
+    span-rest (r .bytes) (bytes s) (v .inv .0) (omega arith) (r .bits) (v .inv .2)
+    (λ p l h. inl (past-mask (a .line .now) (a .mw) (a .x + p) (omega (arith, e .columns-end .ensures .3 (omega (arith, c .loop-test .left, v .inv .1))))))
 
 pub paint-masked-spec : {M : Type 1} → statement M
 paint-masked-spec =
@@ -93,8 +84,8 @@ paint-masked-spec =
     loop-holds
     step-mask-requires
     add-given
-    loop-less
+    (λ c. omega arith)
     loop-again
-    same-length
-    same-length-2
+    (λ c. span-target (c .before .loop .inv .2))
+    (λ c. span-map (c .before .loop .inv .2))
     returns)

@@ -19,40 +19,34 @@ abbrev μ-loop : tie.MeasureT-loop
 
 -- the map's elements are bytes
 bytes : (s : tie.After-shared-slice-known2 Inv-loop μ-loop) → Bytes (s .before .before .before .before .args .map .now)
-bytes s k = omega (arith, s .before .before .slice-known2 .given k)
+bytes s k = s .before .before .slice-known2 .given k .fits
 
 -- the pixel after this one ends within the row
 ends : (l : tie.In-loop Inv-loop μ-loop) → let s = l .before .before .before .before .before .before in (l .before .loop .k + 1) * s .args .b ≤ s .args .j * s .args .b
-ends l = mul-le-mul-right (l .before .before .before .before .before .before .args .b) (omega (arith, l .loop-test .taken))
+ends l = mul-le-mul-right (l .before .before .before .before .before .before .args .b) (omega arith)
 
 mul-a : tie.Need-mul-a Inv-loop μ-loop
-mul-a c = let s = c .before .before .before .before in omega (arith, mul-le-mul-right (s .args .b) (s .pre .order), s .pre .row .target)
+mul-a c = let s = c .before .before .before .before in omega (arith, mul-le-mul-right (s .args .b) (s .pre .order))
 
 loop-holds : tie.Need-loop-holds Inv-loop μ-loop
-loop-holds c = let s = c .before .before .before .before in (omega arith, s .pre .order, refl, span-none _ _ _ (s .pre .row .bytes) _ _ _ _ _ _ _ (bytes c) _)
+loop-holds c = let s = c .before .before .before .before in (omega arith, s .pre .order, refl, span-none (s .pre .row .bytes) (bytes c))
 
 paint-pixel-requires : tie.Need-paint-pixel-requires Inv-loop μ-loop
 paint-pixel-requires c κs =
     let l = c .before .before in
     let v = l .before .loop in
-    (room-less (room-kept (l .before .before .before .before .before .before .pre .row) (span-target (v .inv .3)) (span-map (v .inv .3))) _ (omega (arith, l .loop-test .taken)), v .inv .2)
+    (room-less (room-kept (l .before .before .before .before .before .before .pre .row) (span-target (v .inv .3)) (span-map (v .inv .3))) _ (omega arith), v .inv .2)
 
 add-given : tie.Need-add-given Inv-loop μ-loop
 add-given c =
     let p = c .before .before .before .before in
     let l = p .before .before .before in
-    omega (arith, span-given (l .before .loop .inv .3), span-given (p .paint-pixel .ensures), l .loop-test .taken)
+    omega (arith, span-given (l .before .loop .inv .3), span-given (p .paint-pixel .ensures))
 
 add-a : tie.Need-add-a Inv-loop μ-loop
 add-a c =
     let l = c .before .before .before .before .before .before .before in
-    omega (arith, l .before .loop .inv .2, ends l, l .before .before .before .before .before .before .pre .row .target)
-
-add-k : tie.Need-add-k Inv-loop μ-loop
-add-k c = omega arith
-
-loop-less : tie.Need-loop-less Inv-loop μ-loop
-loop-less c = omega arith
+    omega (arith, ends l)
 
 loop-again : tie.Need-loop-again Inv-loop μ-loop
 loop-again c =
@@ -62,16 +56,10 @@ loop-again c =
     let s = l .before .before in
     let r = s .before .before .before .before .pre .row in (
       omega arith,
-      omega (arith, l .loop-test .taken),
-      omega (arith, v .inv .2),
-      span-then _ _ _ (r .bytes) _ _ _ _ _ _ _ (bytes s) _ _ _ (v .inv .0) (omega arith) (omega (arith, r .bits, l .loop-test .taken)) (v .inv .3) (p .paint-pixel .ensures),
+      omega arith,
+      omega arith,
+      span-then (r .bytes) (bytes s) (v .inv .0) (omega arith) (omega arith) (v .inv .3) (p .paint-pixel .ensures),
     )
-
-same-length : tie.Need-same-length Inv-loop μ-loop
-same-length c = span-target (c .before .loop .inv .3)
-
-same-length-2 : tie.Need-same-length-2 Inv-loop μ-loop
-same-length-2 c = span-map (c .before .loop .inv .3)
 
 returns : tie.Need-returns Inv-loop μ-loop
 returns c =
@@ -91,9 +79,9 @@ paint-pixels-spec =
     paint-pixel-requires
     add-given
     add-a
-    add-k
-    loop-less
+    (λ c. omega arith)
+    (λ c. omega arith)
     loop-again
-    same-length
-    same-length-2
+    (λ c. span-target (c .before .loop .inv .3))
+    (λ c. span-map (c .before .loop .inv .3))
     returns)

@@ -19,10 +19,10 @@ abbrev μ-loop : tie.MeasureT-loop
 
 -- the map's elements are bytes
 bytes : (s : tie.After-shared-slice-known2 Inv-loop μ-loop) → Bytes (s .before .before .before .before .args .map .now)
-bytes s k = omega (arith, s .before .before .slice-known2 .given k)
+bytes s k = s .before .before .slice-known2 .given k .fits
 
 loop-holds : tie.Need-loop-holds Inv-loop μ-loop
-loop-holds c = (omega arith, span-none _ _ _ (c .before .before .before .before .pre .bytes) _ _ _ _ _ _ _ (bytes c) _)
+loop-holds c = (omega arith, span-none (c .before .before .before .before .pre .bytes) (bytes c))
 
 step-map-requires : tie.Need-step-map-requires Inv-loop μ-loop
 step-map-requires c κs =
@@ -35,10 +35,7 @@ add-given : tie.Need-add-given Inv-loop μ-loop
 add-given c =
     let p = c .before .before .before .before .before in
     let l = p .before .before .before in
-    omega (arith, span-given (l .before .loop .inv .1), span-given (p .step-map .ensures .painted), p .step-map .ensures .end)
-
-loop-less : tie.Need-loop-less Inv-loop μ-loop
-loop-less c = let p = c .before .before .before .before .before in omega (arith, p .step-map .ensures .on, p .step-map .ensures .end)
+    omega (arith, span-given (l .before .loop .inv .1), span-given (p .step-map .ensures .painted))
 
 loop-again : tie.Need-loop-again Inv-loop μ-loop
 loop-again c =
@@ -48,13 +45,7 @@ loop-again c =
     let s = l .before .before in
     let r = s .before .before .before .before .pre in
     let o = p .step-map .ensures in
-    (o .end, span-then _ _ _ (r .bytes) _ _ _ _ _ _ _ (bytes s) _ _ _ (omega arith) (omega (arith, o .on)) (omega (arith, r .bits, o .end)) (v .inv .1) (o .painted))
-
-same-length : tie.Need-same-length Inv-loop μ-loop
-same-length c = span-target (c .before .loop .inv .1)
-
-same-length-2 : tie.Need-same-length-2 Inv-loop μ-loop
-same-length-2 c = span-map (c .before .loop .inv .1)
+    (o .end, span-then (r .bytes) (bytes s) (omega arith) (omega arith) (omega arith) (v .inv .1) (o .painted))
 
 returns : tie.Need-returns Inv-loop μ-loop
 returns c =
@@ -72,8 +63,8 @@ paint-uncovered-spec =
     loop-holds
     step-map-requires
     add-given
-    loop-less
+    (λ c. omega arith)
     loop-again
-    same-length
-    same-length-2
+    (λ c. span-target (c .before .loop .inv .1))
+    (λ c. span-map (c .before .loop .inv .1))
     returns)

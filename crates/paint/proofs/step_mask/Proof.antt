@@ -1,108 +1,32 @@
 -- `paint::step_mask` meets its contract.
-use mathlib.Core.Path.{refl}
-use Prim.Native.Nat.{_-_}
-use native.Mathlib.Omega.{arith}
-use Rattle.plane.proofs.PaintLaws.{Bytes}
-use Rattle.paint.proofs.Rooms.{room-less}
+use Rattle.paint.proofs.Spans.{lent-bytes}
+use Rattle.paint.proofs.Rooms.{span-less, columns-in, run-given}
 use Rattle.paint.proofs.Steps.{step-valid, step-invalid}
+use native.Mathlib.Omega.{arith}
 use borrow.Author.Needs.{needs}
 use Rattle.paint.proofs.step_mask.Statement.{statement}
 use Rattle.paint.proofs.step_mask.Tie as tie
-
--- the map's elements are bytes
-bytes : (s : tie.After-shared-slice-known2) → Bytes (s .before .before .before .before .args .map .now)
-bytes s k = omega (arith, s .before .before .slice-known2 .given k)
-
-add-at : tie.Need-add-at
-add-at c = search needs
-
-add-end : tie.Need-add-end
-add-end c = search needs
-
-run-end-requires : tie.Need-run-end-requires
-run-end-requires c κs = let q = c .before .before .before .before .pre in (omega (arith, q .1 .order), omega (arith, q .3, q .1 .row .mask refl))
-
-sub-if1 : tie.Need-sub-if1
-sub-if1 c = search needs
-
-sub-next : tie.Need-sub-next
-sub-next c = search needs
-
-give-span-requires : tie.Need-give-span-requires
-give-span-requires c κs =
-    let o = c .before .before .before in
-    let s = o .before .before .before .before .before in
-    let r = room-less (s .pre .1 .row) (o .run-end .result - s .args .x) (omega (arith, o .run-end .ensures .end)) in
-    (omega (arith, o .run-end .ensures .start), r .target, r .source, r .bits, r .number)
-
-sub-t26 : tie.Need-sub-t26
-sub-t26 c = search needs
-
-same-length : tie.Need-same-length
-same-length c = search needs
-
-same-length-2 : tie.Need-same-length-2
-same-length-2 c = search needs
-
-returns : tie.Need-returns
-returns c =
-    let g = c .before .before .before .before in
-    let f = g .before .before .before in
-    let q = f .before .before .before .before .before .before .pre in
-    step-valid _ _ _ _ _ (q .1 .row .bytes) _ _ _ _ _ _ (q .3) (q .2) (f .before .run-end .ensures) (f .if1 .taken) (g .give-span .ensures)
-
-run-end-requires-2 : tie.Need-run-end-requires-2
-run-end-requires-2 c κs = let q = c .before .before .before .before .before .before .pre in (omega (arith, q .1 .order), omega (arith, q .3, q .1 .row .mask refl))
-
-sub-if2 : tie.Need-sub-if2
-sub-if2 c = search needs
-
-sub-t27 : tie.Need-sub-t27
-sub-t27 c = search needs
-
-returns-2 : tie.Need-returns-2
-returns-2 c =
-    let s = c .before .before .before .before in
-    step-invalid _ _ _ _ _ (s .before .before .before .before .pre .1 .row .bytes) _ _ _ _ _ _ (bytes s) (c .before .run-end2 .ensures) (c .if2 .taken)
-
-short-end-requires : tie.Need-short-end-requires
-short-end-requires c κs = search needs
-
-paint-pixels-requires : tie.Need-paint-pixels-requires
-paint-pixels-requires c κs =
-    let e = c .before .before in
-    let q = e .before .before .before .before .before .before .before .before .before .pre in
-    record { order = omega (arith, e .short-end .ensures); row = room-less (q .1 .row) _ (e .short-end .ensures .1) }
-
-same-length-3 : tie.Need-same-length-3
-same-length-3 c = search needs
-
-same-length-4 : tie.Need-same-length-4
-same-length-4 c = search needs
-
-returns-3 : tie.Need-returns-3
-returns-3 c = search needs
 
 pub step-mask-spec : {M : Type 1} → statement M
 step-mask-spec =
     tie.close
     (tie.spec
-    add-at
-    add-end
-    run-end-requires
-    sub-if1
-    sub-next
-    give-span-requires
-    sub-t26
-    same-length
-    same-length-2
-    returns
-    run-end-requires-2
-    sub-if2
-    sub-t27
-    returns-2
-    short-end-requires
-    paint-pixels-requires
-    same-length-3
-    same-length-4
-    returns-3)
+    (λ c. search needs)
+    (λ c. search needs)
+    (λ c κs. (omega arith, search columns-in))
+    (λ c. search needs)
+    (λ c. search needs)
+    (λ c κs. let o = c .before .before .before in run-given (o .before .before .before .before .before .pre .1) (o .run-end .ensures))
+    (λ c. search needs)
+    (λ c. search needs)
+    (λ c. search needs)
+    (λ c. search step-valid)
+    (λ c κs. (omega arith, search columns-in))
+    (λ c. search needs)
+    (λ c. search needs)
+    (λ c. search (step-invalid, lent-bytes))
+    (λ c κs. search needs)
+    (λ c κs. search span-less)
+    (λ c. search needs)
+    (λ c. search needs)
+    (λ c. search needs))

@@ -5,9 +5,6 @@ use borrow.Author.Tests.{not-false, lt-ltb, le-ltb}
 use Rattle.paint.proofs.valid_at.Statement.{statement}
 use Rattle.paint.proofs.valid_at.Tie as tie
 
-returns : tie.Need-returns
-returns c = search needs
-
 bit-at-requires : tie.Need-bit-at-requires
 bit-at-requires c κs = omega (arith, c .before .before .before .pre (not-false _ (c .before .if1 .left)))
 
@@ -18,4 +15,4 @@ returns-3 : tie.Need-returns-3
 returns-3 c = rw (not-false (c .before .before .before .args .masked) (c .before .if1 .left), le-ltb _ _ (c .if2 .left))
 
 pub valid-at-spec : {M : Type 1} → statement M
-valid-at-spec = tie.close (tie.spec returns bit-at-requires returns-2 returns-3)
+valid-at-spec = tie.close (tie.spec (λ c. search needs) bit-at-requires returns-2 returns-3)

@@ -12,29 +12,11 @@ Inv-loop m k e v byte i₀ i = (k ≤ i) × (i ≤ e) × Full m v k i
 abbrev μ-loop : tie.MeasureT-loop
 μ-loop m k e v byte i₀ i = e - i
 
-full-byte-requires : tie.Need-full-byte-requires Inv-loop μ-loop
-full-byte-requires c κs = tt
-
-pass-words-requires : tie.Need-pass-words-requires Inv-loop μ-loop
-pass-words-requires c κs = (omega arith, omega arith)
-
-loop-holds : tie.Need-loop-holds Inv-loop μ-loop
-loop-holds c = c .pass-words .ensures
-
-shared-slice-read-if1 : tie.Need-shared-slice-read-if1 Inv-loop μ-loop
-shared-slice-read-if1 c = omega arith
-
 returns : tie.Need-returns Inv-loop μ-loop
 returns c =
     let l = c .before .before .before in
     let a = l .before .before .before .before .args in
     full-stop (a .m .now) (a .v) _ _ _ (l .loop .inv .0) (l .loop .inv .1) (l .loop .inv .2) (λ z. c .if1 .taken (z ∙ sym (l .before .before .full-byte .ensures)))
-
-add-i : tie.Need-add-i Inv-loop μ-loop
-add-i c = omega arith
-
-loop-less : tie.Need-loop-less Inv-loop μ-loop
-loop-less c = omega arith
 
 loop-again : tie.Need-loop-again Inv-loop μ-loop
 loop-again c =
@@ -54,12 +36,12 @@ pass-bytes-spec =
     (tie.spec
     Inv-loop
     μ-loop
-    full-byte-requires
-    pass-words-requires
-    loop-holds
-    shared-slice-read-if1
+    (λ c κs. tt)
+    (λ c κs. (omega arith, omega arith))
+    (λ c. c .pass-words .ensures)
+    (λ c. omega arith)
     returns
-    add-i
-    loop-less
+    (λ c. omega arith)
+    (λ c. omega arith)
     loop-again
     returns-2)

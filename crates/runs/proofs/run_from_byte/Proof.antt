@@ -6,12 +6,6 @@ use borrow.Author.Needs.{needs}
 use Rattle.runs.proofs.run_from_byte.Statement.{statement}
 use Rattle.runs.proofs.run_from_byte.Tie as tie
 
-pass-bytes-requires : tie.Need-pass-bytes-requires
-pass-bytes-requires c κs = search needs
-
-mul-at : tie.Need-mul-at
-mul-at c = search needs
-
 -- the string's elements are bytes
 bytes : (s : tie.After-shared-slice-known) → Bytes (s .before .args .m .now)
 bytes s k = omega (arith, s .shared-slice-known .given k)
@@ -19,20 +13,8 @@ bytes s k = omega (arith, s .shared-slice-known .given k)
 returns : tie.Need-returns
 returns c = let p = c .before in run-bytes _ (bytes (p .before)) _ _ _ _ (p .pass-bytes .ensures) (c .if1 .taken)
 
-shared-slice-read-run-in : tie.Need-shared-slice-read-run-in
-shared-slice-read-run-in c = search needs
-
-run-in-requires : tie.Need-run-in-requires
-run-in-requires c κs = search needs
-
-sub-if2 : tie.Need-sub-if2
-sub-if2 c = search needs
-
 returns-2 : tie.Need-returns-2
 returns-2 c = let p = c .before .before .before .before in run-over _ (bytes (p .before)) _ _ _ _ (p .pass-bytes .ensures) _ (c .before .run-in .ensures) (c .if2 .taken)
-
-add-result : tie.Need-add-result
-add-result c = search needs
 
 returns-3 : tie.Need-returns-3
 returns-3 c = let p = c .before .before .before .before in run-in-last _ (bytes (p .before)) _ _ _ _ (p .pass-bytes .ensures) _ (c .before .run-in .ensures) (c .if2 .left)
@@ -41,12 +23,12 @@ pub run-from-byte-spec : {M : Type 1} → statement M
 run-from-byte-spec =
     tie.close
     (tie.spec
-    pass-bytes-requires
-    mul-at
+    (λ c κs. search needs)
+    (λ c. search needs)
     returns
-    shared-slice-read-run-in
-    run-in-requires
-    sub-if2
+    (λ c. search needs)
+    (λ c κs. search needs)
+    (λ c. search needs)
     returns-2
-    add-result
+    (λ c. search needs)
     returns-3)

@@ -7,24 +7,6 @@ use borrow.Author.Needs.{needs}
 use Rattle.runs.proofs.run_in.Statement.{statement}
 use Rattle.runs.proofs.run_in.Tie as tie
 
-differing-bits-requires : tie.Need-differing-bits-requires
-differing-bits-requires c κs = search needs
-
-cast-rest : tie.Need-cast-rest
-cast-rest c = search needs
-
-cast-rest-2 : tie.Need-cast-rest-2
-cast-rest-2 c = search needs
-
-shr-rest : tie.Need-shr-rest
-shr-rest c = search needs
-
-rem-rest : tie.Need-rem-rest
-rem-rest c = rest-pos _ (c .before .pre)
-
-cast-result : tie.Need-cast-result
-cast-result c = record { fits = rest-lt _ _ (c .before .pre) }
-
 cast-result-2 : tie.Need-cast-result-2
 cast-result-2 c = omega (arith, leading-le 8 (c .differing-bits .result % (256 / 2 ^ c .before .args .a)))
 
@@ -35,11 +17,11 @@ pub run-in-spec : {M : Type 1} → statement M
 run-in-spec =
     tie.close
     (tie.spec
-    differing-bits-requires
-    cast-rest
-    cast-rest-2
-    shr-rest
-    rem-rest
-    cast-result
+    (λ c κs. search needs)
+    (λ c. search needs)
+    (λ c. search needs)
+    (λ c. search needs)
+    (λ c. rest-pos _ (c .before .pre))
+    (λ c. record { fits = rest-lt _ _ (c .before .pre) })
     cast-result-2
     returns)

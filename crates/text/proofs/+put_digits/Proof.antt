@@ -26,102 +26,6 @@ abbrev put-digits-below : ℕ → In 0 put-digits-kinds.ps
 put-digits-below t =
     and 0 put-digits-kinds.ps (falls 0 put-digits-kinds.ps _<_ μ-put-digits t) put-digits.Pre
 
-put-digits-returns : (t : ℕ) → put-digits-lts.Need-returns (
-  push-reads.Asked,
-  push-reads.Learnt,
-  put-digits-below t,
-  put-digits.Post,
-) (put-digits-at t) put-digits.Post
-put-digits-returns t c = rw (digits-none _ _ (c .if1 .taken)) (appended-none _ (c .before .pre .1 .0))
-
-put-digits-add-push : (t : ℕ) → put-digits-lts.Need-add-push (
-  push-reads.Asked,
-  push-reads.Learnt,
-  put-digits-below t,
-  put-digits.Post,
-) (put-digits-at t) put-digits.Post
-put-digits-add-push t c = omega arith
-
-put-digits-cast-push : (t : ℕ) → put-digits-lts.Need-cast-push (
-  push-reads.Asked,
-  push-reads.Learnt,
-  put-digits-below t,
-  put-digits.Post,
-) (put-digits-at t) put-digits.Post
-put-digits-cast-push t c = omega arith
-
-put-digits-push-requires : (t : ℕ) → put-digits-lts.Need-push-requires (
-  push-reads.Asked,
-  push-reads.Learnt,
-  put-digits-below t,
-  put-digits.Post,
-) (put-digits-at t) put-digits.Post
-put-digits-push-requires t c κs = (c .before .before .pre .1 .0, omega (arith, pos-of-ne-zero (c .before .if1 .left)))
-
-put-digits-returns-2 : (t : ℕ) → put-digits-lts.Need-returns-2 (
-  push-reads.Asked,
-  push-reads.Learnt,
-  put-digits-below t,
-  put-digits.Post,
-) (put-digits-at t) put-digits.Post
-put-digits-returns-2 t c = rw (digits-one _ _ (c .before .before .if1 .left) (c .before .if2 .taken)) (c .push .ensures)
-
-put-digits-sub-put-digits : (t : ℕ) → put-digits-lts.Need-sub-put-digits (
-  push-reads.Asked,
-  push-reads.Learnt,
-  put-digits-below t,
-  put-digits.Post,
-) (put-digits-at t) put-digits.Post
-put-digits-sub-put-digits t c = omega (arith, pos-of-ne-zero (c .before .if1 .left))
-
-put-digits-put-digits-requires : (t : ℕ) → put-digits-lts.Need-put-digits-requires (
-  push-reads.Asked,
-  push-reads.Learnt,
-  put-digits-below t,
-  put-digits.Post,
-) (put-digits-at t) put-digits.Post
-put-digits-put-digits-requires t c κs =
-    let one = pos-of-ne-zero (c .before .if1 .left) in
-    (omega arith, (c .before .before .pre .1 .0, omega arith))
-
-put-digits-add-push-2 : (t : ℕ) → put-digits-lts.Need-add-push-2 (
-  push-reads.Asked,
-  push-reads.Learnt,
-  put-digits-below t,
-  put-digits.Post,
-) (put-digits-at t) put-digits.Post
-put-digits-add-push-2 t c = omega arith
-
-put-digits-cast-push-2 : (t : ℕ) → put-digits-lts.Need-cast-push-2 (
-  push-reads.Asked,
-  push-reads.Learnt,
-  put-digits-below t,
-  put-digits.Post,
-) (put-digits-at t) put-digits.Post
-put-digits-cast-push-2 t c = omega arith
-
-put-digits-push-requires-2 : (t : ℕ) → put-digits-lts.Need-push-requires-2 (
-  push-reads.Asked,
-  push-reads.Learnt,
-  put-digits-below t,
-  put-digits.Post,
-) (put-digits-at t) put-digits.Post
-put-digits-push-requires-2 t c κs =
-    let one = pos-of-ne-zero (c .before .before .if1 .left) in
-    let a = c .put-digits .ensures in
-    let room = appended-room _ _ _ _ a (digits-most _ _) in
-    (a .clean, omega arith)
-
-put-digits-returns-3 : (t : ℕ) → put-digits-lts.Need-returns-3 (
-  push-reads.Asked,
-  push-reads.Learnt,
-  put-digits-below t,
-  put-digits.Post,
-) (put-digits-at t) put-digits.Post
-put-digits-returns-3 t c =
-    rw (digits-more _ _ (c .before .before .before .if1 .left) (c .before .before .if2 .left))
-    (appended-both _ _ _ _ _ (c .before .put-digits .ensures) (c .push2 .ensures))
-
 pub +put-digits-spec : {M : Type 1} → statement M
 +put-digits-spec = close μ-put-digits λ t. put-digits-lts.spec (
   push-reads.Asked,
@@ -131,14 +35,20 @@ pub +put-digits-spec : {M : Type 1} → statement M
 )
     (put-digits-at t)
     put-digits.Post
-    (put-digits-returns t)
-    (put-digits-add-push t)
-    (put-digits-cast-push t)
-    (put-digits-push-requires t)
-    (put-digits-returns-2 t)
-    (put-digits-sub-put-digits t)
-    (put-digits-put-digits-requires t)
-    (put-digits-add-push-2 t)
-    (put-digits-cast-push-2 t)
-    (put-digits-push-requires-2 t)
-    (put-digits-returns-3 t)
+    (λ c. rw (digits-none _ _ (c .if1 .taken)) (appended-none _ (c .before .pre .1 .0)))
+    (λ c. omega arith)
+    (λ c. omega arith)
+    (λ c κs. (c .before .before .pre .1 .0, omega (arith, pos-of-ne-zero (c .before .if1 .left))))
+    (λ c. rw (digits-one _ _ (c .before .before .if1 .left) (c .before .if2 .taken)) (c .push .ensures))
+    (λ c. omega (arith, pos-of-ne-zero (c .before .if1 .left)))
+    (λ c κs. let one = pos-of-ne-zero (c .before .if1 .left) in (omega arith, (c .before .before .pre .1 .0, omega arith)))
+    (λ c. omega arith)
+    (λ c. omega arith)
+    (λ c κs.
+    let one = pos-of-ne-zero (c .before .before .if1 .left) in
+    let a = c .put-digits .ensures in
+    let room = appended-room _ _ _ _ a (digits-most _ _) in
+    (a .clean, omega arith))
+    (λ c.
+    rw (digits-more _ _ (c .before .before .before .if1 .left) (c .before .before .if2 .left))
+    (appended-both _ _ _ _ _ (c .before .put-digits .ensures) (c .push2 .ensures)))

@@ -15,23 +15,11 @@ Inv-loop name next₀ i₀ next i = (i ≤ length name) × Appended next₀ (tak
 abbrev μ-loop : tie.MeasureT-loop
 μ-loop name next₀ i₀ next i = length name - i
 
-loop-holds : tie.Need-loop-holds Inv-loop μ-loop
-loop-holds c = (omega arith, appended-none _ (c .before .pre .0))
-
-shared-slice-read-push : tie.Need-shared-slice-read-push Inv-loop μ-loop
-shared-slice-read-push c = omega arith
-
 push-requires : tie.Need-push-requires Inv-loop μ-loop
 push-requires c κs =
     let a = c .before .before .loop .inv .1 in
     let s = now (c .before .before .before .before .args .name) in
     (a .clean, omega (arith, a .length-is, length-take (c .before .before .loop .i) s))
-
-add-i : tie.Need-add-i Inv-loop μ-loop
-add-i c = omega arith
-
-loop-less : tie.Need-loop-less Inv-loop μ-loop
-loop-less c = omega arith
 
 loop-again : tie.Need-loop-again Inv-loop μ-loop
 loop-again c =
@@ -51,10 +39,10 @@ put-spec =
     (tie.spec
     Inv-loop
     μ-loop
-    loop-holds
-    shared-slice-read-push
+    (λ c. (omega arith, appended-none _ (c .before .pre .0)))
+    (λ c. omega arith)
     push-requires
-    add-i
-    loop-less
+    (λ c. omega arith)
+    (λ c. omega arith)
     loop-again
     returns)

@@ -7,23 +7,11 @@ use Rattle.text.proofs.Texts.{appended-both}
 use Rattle.text.proofs.put_signed.Statement.{statement}
 use Rattle.text.proofs.put_signed.Tie as tie
 
-push-requires : tie.Need-push-requires
-push-requires c κs = search needs
-
-sub-put-decimal : tie.Need-sub-put-decimal
-sub-put-decimal c = search needs
-
-put-decimal-requires : tie.Need-put-decimal-requires
-put-decimal-requires c κs = search needs
-
 returns : tie.Need-returns
 unfolding signedDecimal
 returns c =
     rw (lt-ltb (c .before .before .before .args .b) (2 ^ 31) (c .before .before .if1 .taken))
     (appended-both _ _ _ _ _ (c .before .push .ensures) (c .put-decimal .ensures))
-
-put-decimal-requires-2 : tie.Need-put-decimal-requires-2
-put-decimal-requires-2 c κs = search needs
 
 returns-2 : tie.Need-returns-2
 unfolding signedDecimal
@@ -34,9 +22,9 @@ pub put-signed-spec : {M : Type 1} → statement M
 put-signed-spec =
     tie.close
     (tie.spec
-    push-requires
-    sub-put-decimal
-    put-decimal-requires
+    (λ c κs. search needs)
+    (λ c. search needs)
+    (λ c κs. search needs)
     returns
-    put-decimal-requires-2
+    (λ c κs. search needs)
     returns-2)
