@@ -19,23 +19,11 @@ Inv-loop s a end seen₀ c₀ seen c = (c ≤ end) × (first (chunksRows (end - 
 abbrev μ-loop : tie.MeasureT-loop
 μ-loop s a end seen₀ c₀ seen c = end - c
 
-loop-holds : tie.Need-loop-holds Inv-loop μ-loop
-loop-holds c = (omega arith, refl)
-
-judge-chunk-requires : tie.Need-judge-chunk-requires Inv-loop μ-loop
-judge-chunk-requires c κs = search needs
-
-enum-known-verdict : tie.Need-enum-known-verdict Inv-loop μ-loop
-enum-known-verdict c = search needs
-
 returns : tie.Need-returns Inv-loop μ-loop
 returns c =
     let j = c .before .before .before in
     let l = j .before .before in
     sym (l .loop .inv .1 ∙ chunks-stop _ _ _ _ _ _ (j .before .loop-test .taken) (sym (j .judge-chunk .ensures) ∙ c .before .verdict .given .1))
-
-enum-told : tie.Need-enum-told Inv-loop μ-loop
-enum-told c = search needs
 
 -- the chunk that was judged is not refused
 accepted : (c : tie.After-enum-told Inv-loop μ-loop)
@@ -49,23 +37,11 @@ chunk-at-requires c κs =
     let p = chunk-passed _ _ _ _ (accepted c) in
     (omega (arith, p .fits .header), λ h. omega (arith, fields-within _ _ _ _ p h))
 
-add-c : tie.Need-add-c Inv-loop μ-loop
-add-c c = omega arith
-
 -- the next chunk's place is at most end
 next-within : (c : tie.After-struct-known Inv-loop μ-loop)
     → let l = c .before .before .before .before .before .before in
     l .loop .c + 20 + c .before .chunk-at .result .length ≤ l .before .before .args .end
 next-within c = read-within _ _ _ (c .before .chunk-at .ensures) _ _ (chunk-passed _ _ _ _ (accepted (c .before .before)))
-
-add-c-2 : tie.Need-add-c-2 Inv-loop μ-loop
-add-c-2 c = omega (arith, next-within c)
-
-enum-told-2 : tie.Need-enum-told-2 Inv-loop μ-loop
-enum-told-2 c = search needs
-
-loop-less : tie.Need-loop-less Inv-loop μ-loop
-loop-less c = omega (arith, next-within (c .before .before))
 
 loop-again : tie.Need-loop-again Inv-loop μ-loop
 loop-again c =
@@ -73,20 +49,11 @@ loop-again c =
     let l = k .before .before .before .before .before in
     (next-within (c .before .before), l .loop .inv .1 ∙ chunks-masked _ _ _ (k .chunk-at .ensures) _ _ _ (c .enum-told2 .given .1) (k .before .before .before .before .loop-test .taken) (accepted (k .before)))
 
-enum-told-3 : tie.Need-enum-told-3 Inv-loop μ-loop
-enum-told-3 c = search needs
-
-loop-less-2 : tie.Need-loop-less-2 Inv-loop μ-loop
-loop-less-2 c = omega (arith, next-within (c .before .before))
-
 loop-again-2 : tie.Need-loop-again-2 Inv-loop μ-loop
 loop-again-2 c =
     let k = c .before .before .before in
     let l = k .before .before .before .before .before in
     (next-within (c .before .before), l .loop .inv .1 ∙ chunks-skipped _ _ _ (k .chunk-at .ensures) _ _ (c .enum-told3 .given .1) (k .before .before .before .before .loop-test .taken) (accepted (k .before)))
-
-returns-2 : tie.Need-returns-2 Inv-loop μ-loop
-returns-2 c = sym (c .before .loop .inv .1 ∙ chunks-done _ _ _ _ (omega arith))
 
 pub judge-chunks-spec : {M : Type 1} → statement M
 judge-chunks-spec =
@@ -94,18 +61,18 @@ judge-chunks-spec =
     (tie.spec
     Inv-loop
     μ-loop
-    loop-holds
-    judge-chunk-requires
-    enum-known-verdict
+    (λ c. (omega arith, refl))
+    (λ c κs. search needs)
+    (λ c. search needs)
     returns
-    enum-told
+    (λ c. search needs)
     chunk-at-requires
-    add-c
-    add-c-2
-    enum-told-2
-    loop-less
+    (λ c. omega arith)
+    (λ c. omega (arith, next-within c))
+    (λ c. search needs)
+    (λ c. omega (arith, next-within (c .before .before)))
     loop-again
-    enum-told-3
-    loop-less-2
+    (λ c. search needs)
+    (λ c. omega (arith, next-within (c .before .before)))
     loop-again-2
-    returns-2)
+    (λ c. sym (c .before .loop .inv .1 ∙ chunks-done _ _ _ _ (omega arith))))

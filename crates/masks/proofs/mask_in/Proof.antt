@@ -19,9 +19,6 @@ Inv-loop s a end c₀ c = (c ≤ end) × (first (chunksRows (end - c) s end fals
 abbrev μ-loop : tie.MeasureT-loop
 μ-loop s a end c₀ c = end - c
 
-loop-holds : tie.Need-loop-holds Inv-loop μ-loop
-loop-holds c = (omega arith, c .before .pre .1, refl)
-
 -- the chunk at c is not refused
 accepted : (c : tie.In-loop Inv-loop μ-loop)
     → let a = c .before .before .before .args in
@@ -33,20 +30,11 @@ chunk-at-requires c κs =
     let p = chunk-passed _ _ _ _ (accepted c) in
     (omega (arith, p .fits .header), λ h. omega (arith, fields-within _ _ _ _ p h))
 
-enum-known-content : tie.Need-enum-known-content Inv-loop μ-loop
-enum-known-content c = search needs
-
 returns : tie.Need-returns Inv-loop μ-loop
 returns c =
     let k = c .before .before .before in
     let l = k .before .before in
     sym (l .loop .inv .2 ∙ mask-found _ _ _ (k .chunk-at .ensures) _ _ (c .before .content .given .1) (k .before .loop-test .taken))
-
-enum-told : tie.Need-enum-told Inv-loop μ-loop
-enum-told c = search needs
-
-add-c : tie.Need-add-c Inv-loop μ-loop
-add-c c = omega arith
 
 -- the next chunk's place is at most end
 next-within : (c : tie.After-struct-known Inv-loop μ-loop)
@@ -54,12 +42,6 @@ next-within : (c : tie.After-struct-known Inv-loop μ-loop)
     let l = k .before .before in
     l .loop .c + 20 + k .chunk-at .result .length ≤ l .before .before .args .end
 next-within c = let k = c .before .before .before in read-within _ _ _ (k .chunk-at .ensures) _ _ (chunk-passed _ _ _ _ (accepted (k .before)))
-
-add-c-2 : tie.Need-add-c-2 Inv-loop μ-loop
-add-c-2 c = omega (arith, next-within c)
-
-loop-less : tie.Need-loop-less Inv-loop μ-loop
-loop-less c = omega (arith, next-within c)
 
 loop-again : tie.Need-loop-again Inv-loop μ-loop
 loop-again c =
@@ -69,22 +51,19 @@ loop-again c =
     let more = k .before .loop-test .taken in
     (next-within c, sym (chunks-skipped _ _ _ (k .chunk-at .ensures) _ _ other more (accepted (k .before))) ∙ l .loop .inv .1, l .loop .inv .2 ∙ mask-skipped _ _ _ (k .chunk-at .ensures) _ other more)
 
-returns-2 : tie.Need-returns-2 Inv-loop μ-loop
-returns-2 c = sym (c .before .loop .inv .2 ∙ mask-done _ _ _ (omega arith))
-
 pub mask-in-spec : {M : Type 1} → statement M
 mask-in-spec =
     tie.close
     (tie.spec
     Inv-loop
     μ-loop
-    loop-holds
+    (λ c. (omega arith, c .before .pre .1, refl))
     chunk-at-requires
-    enum-known-content
+    (λ c. search needs)
     returns
-    enum-told
-    add-c
-    add-c-2
-    loop-less
+    (λ c. search needs)
+    (λ c. omega arith)
+    (λ c. omega (arith, next-within c))
+    (λ c. omega (arith, next-within c))
     loop-again
-    returns-2)
+    (λ c. sym (c .before .loop .inv .2 ∙ mask-done _ _ _ (omega arith))))
