@@ -10,7 +10,8 @@ use lib.Signed.{mag}
 use borrow.Author.Tests.{lt-ltb, le-ltb, eq-eqb, ne-eqb, ltb-true, ltb-false, leb-false, eqb-true, eqb-false, not-false}
 use Rattle.format.specs.Bytes.{u32At, sameAt, anyOf, anyBelow, leastBelow, signed32, biased}
 use Rattle.format.specs.Names.{markTile}
-use Rattle.format.specs.Entry.{dimensionCount, letter, start, size, stored, storedField, dimensionPlace, nextEntry, headBad, letterBad, tooFar, isPlane, sizeBad, dimensionBad, hasLetter, repeats, closesPlane, dimensionsBad, letterIndex, letterPlace, pixelBytes}
+use Rattle.format.specs.Entry.{dimensionCount, letter, start, size, stored, storedField, dimensionPlace, nextEntry, hasLetter, letterIndex, letterPlace}
+use Rattle.format.specs.Entry.{headBad, letterBad, tooFar, isPlane, sizeBad, dimensionBad, repeats, closesPlane, dimensionsBad, pixelBytes}
 use Rattle.format.proofs.Below.{none, any-found, any-none, least-is, least-none}
 
 -- ---- the fixed part
@@ -43,7 +44,9 @@ size-ok : (bs : List ℕ) (d : ℕ) → sizeBad bs d ≡ false → (1 ≤ size b
 unfolding sizeBad
 size-ok bs d h = go (isPlane (letter bs d)) h
   where
-    go : (t : Bool) → cond t (anyOf (eqb (size bs d) 0 ∷ leb (2 ^ 31) (size bs d) ∷ [])) (anyOf (not (eqb (size bs d) 1) ∷ not (eqb (stored bs d) 1) ∷ [])) ≡ false → (1 ≤ size bs d) × (size bs d < 2 ^ 31)
+    go : (t : Bool)
+        → cond t (anyOf (eqb (size bs d) 0 ∷ leb (2 ^ 31) (size bs d) ∷ [])) (anyOf (not (eqb (size bs d) 1) ∷ not (eqb (stored bs d) 1) ∷ [])) ≡ false
+        → (1 ≤ size bs d) × (size bs d < 2 ^ 31)
     go true h =
         let zero = eqb-false (size bs d) 0 (none _ h 0) in
         let high = leb-false (2 ^ 31) (size bs d) (none _ h 1) in
@@ -95,7 +98,8 @@ pub end-signed : (x z : ℕ) → x < 2 ^ 32 → biased x + z < 2 ^ 32 → mag (s
 unfolding biased signed32
 end-signed x z fits h = go (ltb x (2 ^ 31)) refl
   where
-    sum : (b : Bool) → ltb z (suc (2 ^ 32 - suc x)) ≡ b → 2 ^ 31 ≤ x → mag (cond b (negsuc (suc (2 ^ 32 - suc x) - suc z)) (pos (z - suc (2 ^ 32 - suc x)))) < 2 ^ 31
+    sum : (b : Bool) → ltb z (suc (2 ^ 32 - suc x)) ≡ b → 2 ^ 31 ≤ x
+        → mag (cond b (negsuc (suc (2 ^ 32 - suc x) - suc z)) (pos (z - suc (2 ^ 32 - suc x)))) < 2 ^ 31
     sum true e l = omega arith
     sum false e l = omega (arith, ltb-false z (suc (2 ^ 32 - suc x)) e)
 
@@ -162,15 +166,22 @@ pub record Planed (bs : List ℕ) (e : ℕ) : Type 0 where
   pub x-sized : Sized bs (letterPlace bs e 88)
   pub y-sized : Sized bs (letterPlace bs e 89)
 
+abbrev Has : List ℕ → ℕ → ℕ → Type 0
+Has bs e x = anyBelow (dimensionCount bs e) (hasLetter bs e x) ≡ true
+
 -- Y stands, and X before it
-both : (bs : List ℕ) (e : ℕ) → anyBelow (dimensionCount bs e) (closesPlane bs e) ≡ true → (anyBelow (dimensionCount bs e) (hasLetter bs e 88) ≡ true) × (anyBelow (dimensionCount bs e) (hasLetter bs e 89) ≡ true)
+both : (bs : List ℕ) (e : ℕ) → anyBelow (dimensionCount bs e) (closesPlane bs e) ≡ true → Has bs e 88 × Has bs e 89
 unfolding closesPlane
-both bs e h = let l = least-is (dimensionCount bs e) (closesPlane bs e) h in go (leastBelow (dimensionCount bs e) (closesPlane bs e)) (l .below) (hasLetter bs e 89 (leastBelow (dimensionCount bs e) (closesPlane bs e))) refl (l .holds)
+both bs e h =
+    let l = least-is (dimensionCount bs e) (closesPlane bs e) h in
+    let j = leastBelow (dimensionCount bs e) (closesPlane bs e) in
+    go j (l .below) (hasLetter bs e 89 j) refl (l .holds)
   where
-    go : (j : ℕ) → j < dimensionCount bs e → (t : Bool) → hasLetter bs e 89 j ≡ t → cond t (anyBelow j (hasLetter bs e 88)) false ≡ true → (anyBelow (dimensionCount bs e) (hasLetter bs e 88) ≡ true) × (anyBelow (dimensionCount bs e) (hasLetter bs e 89) ≡ true)
+    go : (j : ℕ) → j < dimensionCount bs e → (t : Bool) → hasLetter bs e 89 j ≡ t → cond t (anyBelow j (hasLetter bs e 88)) false ≡ true
+        → Has bs e 88 × Has bs e 89
     go j b true y h =
         let m = least-is j (hasLetter bs e 88) h in
-        (any-found (dimensionCount bs e) (leastBelow j (hasLetter bs e 88)) (hasLetter bs e 88) (omega (arith, m .below)) (m .holds), any-found (dimensionCount bs e) j (hasLetter bs e 89) b y)
+        (any-found _ _ _ (omega (arith, m .below)) (m .holds), any-found _ j _ b y)
     go j b false y h = absurd (true≢false (sym h))
 
 -- no letter stands before dimension j that it has itself
