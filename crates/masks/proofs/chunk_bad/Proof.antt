@@ -9,20 +9,13 @@ use Rattle.masks.proofs.MaskLaws.{any-at}
 use Rattle.masks.proofs.chunk_bad.Statement.{statement}
 use Rattle.masks.proofs.chunk_bad.Tie as tie
 
-returns : tie.Need-returns
-unfolding chunkBad
-returns c =
-    let a = c .before .before .args in
-    let short : a .end < a .c + 20 = omega arith in
-    any-at _ 0 (lt-ltb _ _ short)
-
 pub chunk-bad-spec : {M : Type 1} → statement M
 unfolding chunkBad nextChunk
 chunk-bad-spec =
     tie.close
     (tie.spec
     (λ c. search needs)
-    returns
+    (λ c. let a = c .before .before .args in let short : a .end < a .c + 20 = omega arith in any-at _ 0 (lt-ltb _ _ short))
     (λ c κs. search needs)
     (λ c. search flags depth 8)
     (λ c. search needs)

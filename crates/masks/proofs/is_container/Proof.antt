@@ -9,12 +9,8 @@ use Rattle.format.specs.Names.{containerMarker}
 use Rattle.masks.proofs.is_container.Statement.{statement}
 use Rattle.masks.proofs.is_container.Tie as tie
 
-returns-2 : tie.Need-returns-2
-unfolding isContainer containerMarker
-returns-2 c = let e : c .before .before .before .before .args .n + 1 - 39 ≡ c .before .before .before .before .args .n - 38 = omega arith in rw e (c .stands .ensures)
-
 pub is-container-spec : {M : Type 1} → statement M
-unfolding isContainer
+unfolding isContainer containerMarker
 is-container-spec =
     tie.close
     (tie.spec
@@ -22,4 +18,4 @@ is-container-spec =
     (λ c. search needs)
     (λ c. search needs)
     (λ c κs. search needs)
-    returns-2)
+    (λ c. let n = c .before .before .before .before .args .n in let e : n + 1 - 39 ≡ n - 38 = omega arith in rw e (c .stands .ensures)))

@@ -8,11 +8,6 @@ use Rattle.masks.proofs.MaskLaws.{chunk-fits}
 use Rattle.masks.proofs.judge_chunk.Statement.{statement}
 use Rattle.masks.proofs.judge_chunk.Tie as tie
 
-mask-refused-requires : tie.Need-mask-refused-requires
-mask-refused-requires c κs =
-    let f = chunk-fits _ _ _ (sym (c .before .chunk-bad .ensures) ∙ c .if1 .left) in
-    omega (arith, f .payload)
-
 pub judge-chunk-spec : {M : Type 1} → statement M
 unfolding chunkRows
 judge-chunk-spec =
@@ -20,6 +15,6 @@ judge-chunk-spec =
     (tie.spec
     (λ c κs. search needs)
     (λ c. search flags depth 8)
-    mask-refused-requires
+    (λ c κs. omega (arith, chunk-fits _ _ _ (sym (c .before .chunk-bad .ensures) ∙ c .if1 .left) .payload))
     (λ c. search flags depth 8)
     (λ c. search flags depth 8))

@@ -1,37 +1,32 @@
 -- `masks::mask_bad` meets its contract.
+use Prim.Native.Nat.{ℕ, _+_, _*_, _≤_, _<_}
+use mathlib.Core.Path.{_≡_}
+use mathlib.Core.Bool.{true, false}
 use native.Mathlib.Omega.{arith}
-use borrow.Author.Tests.{lt-ltb}
+use lib.Dec.{ltb}
+use borrow.Author.Tests.{lt-ltb, le-ltb}
 use borrow.Author.Needs.{needs}
-use Rattle.format.proofs.Flags.{flags}
+use Rattle.format.proofs.Flags.{flags, any-skip, any-none, lt-no, le-no′, not-is-false, eq-yes}
 use Rattle.format.specs.Masks.{maskBad, representation}
 use Rattle.fields.proofs.Products.{below}
 use Rattle.masks.proofs.MaskLaws.{any-at}
 use Rattle.masks.proofs.mask_bad.Statement.{statement}
 use Rattle.masks.proofs.mask_bad.Tie as tie
 
-returns-6 : tie.Need-returns-6
-unfolding maskBad representation
-returns-6 c =
-    let s = c .before .before in
-    let w = s .before .before .before .before .before .before in
-    rw (← s .mask-stride .ensures .0, ← w .mask-width .ensures .0) (search flags depth 9)
+-- stride r and width or height q were read, and the chunk's size z
+module _ (r a q b : ℕ) (e : r ≡ a) (f : q ≡ b) where
+  columns-over : r * 8 < q → ltb (a * 8) b ≡ true
+  columns-over h = rw (← e, ← f) (lt-ltb (r * 8) q h)
 
-returns-7 : tie.Need-returns-7
-unfolding maskBad
-returns-7 c =
-    let s = c .before .before .before in
-    let h = s .before .before .before .before in
-    let z = h .before .before .before .before in
-    rw (← z .chunk-size .ensures .0, ← h .mask-height .ensures .0, ← s .mask-stride .ensures .0) (any-at _ 6 (lt-ltb _ _ (c .if7 .taken)))
+  columns-in : q ≤ r * 8 → ltb (a * 8) b ≡ false
+  columns-in h = rw (← e, ← f) (le-ltb (r * 8) q h)
 
-returns-8 : tie.Need-returns-8
-unfolding maskBad representation
-returns-8 c =
-    let s = c .before .before .before in
-    let h = s .before .before .before .before in
-    let w = h .before .before in
-    let z = w .before .before in
-    rw (← z .chunk-size .ensures .0, ← w .mask-width .ensures .0, ← h .mask-height .ensures .0, ← s .mask-stride .ensures .0) (search flags depth 10)
+  module _ (z n : ℕ) (g : z ≡ n) where
+    lines-over : z < 16 + r * q → ltb n (16 + a * b) ≡ true
+    lines-over h = rw (← e, ← f, ← g) (lt-ltb z (16 + r * q) h)
+
+    lines-in : 16 + r * q ≤ z → ltb n (16 + a * b) ≡ false
+    lines-in h = rw (← e, ← f, ← g) (le-ltb z (16 + r * q) h)
 
 pub mask-bad-spec : {M : Type 1} → statement M
 unfolding maskBad representation
@@ -50,8 +45,8 @@ mask-bad-spec =
     (λ c κs. search needs)
     (λ c. search flags depth 9)
     (λ c. search needs)
-    returns-6
+    (λ c. any-at _ 5 (search columns-over))
     (λ c. omega (arith, below 31 (c .before .if5 .left) (c .before .before .before .before .before .if3 .left)))
     (λ c. omega (arith, below 31 (c .before .if5 .left) (c .before .before .before .before .before .if3 .left)))
-    returns-7
-    returns-8)
+    (λ c. any-at _ 6 (search lines-over))
+    (λ c. search (any-skip, any-none, lt-no, le-no′, not-is-false, eq-yes, columns-in, lines-in) depth 10))

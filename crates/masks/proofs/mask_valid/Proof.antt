@@ -6,15 +6,15 @@ use lib.ListN.{length}
 use borrow.Author.Needs.{needs}
 use Rattle.format.specs.Masks.{maskValid}
 use Rattle.format.proofs.Flags.{flags}
-use Rattle.masks.proofs.MaskLaws.{mask-fits, byte-place, byte-within}
+use Rattle.masks.proofs.MaskLaws.{mask-fits, byte-place, byte-read}
 use Rattle.masks.proofs.mask_valid.Statement.{statement}
 use Rattle.masks.proofs.mask_valid.Tie as tie
 
 -- the byte that is read lies in the slice
-byte-in : (c : tie.After-mask-stride) → let a = c .before .before .before .before .before .before .args in a .c + 36 + a .y * c .mask-stride .result + a .x / 8 < length (now (a .s))
-byte-in c =
-    let l = c .before .before .before .before .before .before in
-    rw (c .mask-stride .ensures .0, byte-place) (omega (arith, byte-within (now (l .args .s)) (l .args .c) (l .args .x) (l .args .y) (l .pre .0) (omega arith) (omega arith)))
+byte-in : (c : tie.After-mask-stride)
+    → let a = c .before .before .before .before .before .before .args in
+    a .c + 36 + a .y * c .mask-stride .result + a .x / 8 < length (now (a .s))
+byte-in c = search byte-read
 
 pub mask-valid-spec : {M : Type 1} → statement M
 unfolding maskValid

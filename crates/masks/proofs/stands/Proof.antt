@@ -29,7 +29,8 @@ unfolding sameAt
 outer-again c =
     let l = c .before .before .before .before in
     let o = l .before .before in
-    (o .outer .inv .0, omega arith, rw (l .loop .inv .0) (any-more _ _ (o .outer .inv .2) (all-fails _ _ _ (c .before .before .before .loop-test .taken) (ne-eqb _ _ (c .if1 .taken)))))
+    let t = c .before .before .before .loop-test .taken in
+    (o .outer .inv .0, omega arith, rw (l .loop .inv .0) (any-more _ _ (o .outer .inv .2) (all-fails _ _ _ t (ne-eqb _ _ (c .if1 .taken)))))
 
 loop-again : tie.Need-loop-again Inv-loop μ-loop Inv-outer μ-outer
 loop-again c =
