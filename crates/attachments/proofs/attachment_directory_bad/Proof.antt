@@ -10,11 +10,7 @@ returns-5 : tie.Need-returns-5
 unfolding attachmentDirectoryBad attachmentEntryCount
 returns-5 c =
     let k = c .before .before .before in
-    rw (← k .u32-at .ensures .0, ← k .before .before .room-at .ensures)
-    (any-skip _ _ _ (le-ltb _ _ (k .before .if1 .left))
-    (any-skip _ _ _ (lt-leb _ _ (c .before .before .if2 .left))
-    (any-skip _ _ _ (le-ltb _ _ (c .before .if3 .left))
-    (any-skip _ _ _ (le-ltb _ _ (c .if4 .left)) any-none))))
+    rw (← k .u32-at .ensures .0, ← k .before .before .room-at .ensures) (search (any-skip, any-none, le-ltb, lt-leb) depth 8)
 
 pub attachment-directory-bad-spec : {M : Type 1} → statement M
 unfolding attachmentDirectoryBad attachmentEntryCount

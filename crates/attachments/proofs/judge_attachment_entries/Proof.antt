@@ -18,11 +18,16 @@ abbrev μ-loop : tie.MeasureT-loop
 
 returns : tie.Need-returns Inv-loop μ-loop
 unfolding attachmentEntry
-returns c = let j = c .before .before .before in sym (rows-stop _ _ _ _ _ (j .before .loop-test .taken) (j .before .before .loop .inv .1) (sym (j .judge-attachment-entry .ensures) ∙ c .before .v .given .1))
+returns c =
+    let j = c .before .before .before in
+    let e = sym (j .judge-attachment-entry .ensures) ∙ c .before .v .given .1 in
+    sym (rows-stop _ _ _ _ _ (j .before .loop-test .taken) (j .before .before .loop .inv .1) e)
 
 loop-again : tie.Need-loop-again Inv-loop μ-loop
 unfolding attachmentEntry
-loop-again c = let j = c .before .before in (omega arith, rows-more _ _ (j .before .before .loop .inv .1) (sym (j .judge-attachment-entry .ensures) ∙ c .enum-told .given .1))
+loop-again c =
+    let j = c .before .before in
+    (omega arith, rows-more _ _ (j .before .before .loop .inv .1) (sym (j .judge-attachment-entry .ensures) ∙ c .enum-told .given .1))
 
 pub judge-attachment-entries-spec : {M : Type 1} → statement M
 judge-attachment-entries-spec =
