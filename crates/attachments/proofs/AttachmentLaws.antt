@@ -1,19 +1,20 @@
 -- What the tests of the metadata segment, the attachment directory and an attachment tell, and rows that are only there where a position is not 0.
 -- Assumes nothing.
 use Prim.Native.Nat.{ℕ, _+_, _*_, _≤_, _<_}
-use mathlib.Core.Path.{_≡_, _∙_}
+use mathlib.Core.Path.{_≡_, sym, _∙_}
 use mathlib.Core.List.{List, []}
-use mathlib.Core.Bool.{Bool, true, false, cond}
+use mathlib.Core.Bool.{Bool, true, false, cond, not}
 use native.Mathlib.Omega.{arith}
 use lib.ListN.{length}
 use borrow.Author.Tests.{lt-ltb, ltb-false}
 use Rattle.format.specs.Checks.{Check, first}
-use Rattle.format.specs.Segments.{room, RoomIn}
+use Rattle.format.specs.Segments.{room, RoomIn, walkedAs}
 use Rattle.format.specs.Attachments.{metadataBad, xmlSize, xmlAttachmentSize, attachmentDirectoryBad, attachmentEntryCount, attachmentBad}
 use Rattle.format.specs.declared.Verdict.{Verdict}
 use Rattle.format.specs.declared.Verdict.the-variants.{Accepted}
 use Rattle.format.proofs.Below.{none}
-use Rattle.format.proofs.Flags.{any-here, any-later}
+use Rattle.format.proofs.SegmentLaws.{walked-room}
+use Rattle.format.proofs.Flags.{any-here, any-later, is-true-not}
 
 -- ---- rows behind a test that says that there is nothing to judge
 
@@ -29,6 +30,10 @@ module _ (t : Bool) (rows : List Check) where
 pub named-room : (bs : List ℕ) (r p : ℕ) → r ≡ p → ((p ≡ 0 → ⊥) → RoomIn bs p) → (r ≡ 0 → ⊥) → RoomIn bs r
 named-room bs r p e h n = rw e (h (λ z. n (e ∙ z)))
 
+-- so is one of which r says that it names a walked segment
+pub walked-in : (bs : List ℕ) (q : ℕ) (name : List ℕ) (r : Bool) → r ≡ walkedAs bs q name → not r ≡ false → RoomIn bs q
+walked-in bs q name r e h = walked-room bs q name (is-true-not r _ e h)
+
 -- ---- refusal 10
 
 -- a room under the fixed part is under the fixed part with both sizes
@@ -43,6 +48,6 @@ entries-within bs t h e = let f : 256 + 128 * attachmentEntryCount bs t ≤ room
 
 -- ---- refusal 15 is not given: the fixed part lies in the room
 
-pub attachment-fits : (ds : List ℕ) (e : ℕ) (bs : List ℕ) (q : ℕ) → attachmentBad ds e bs q ≡ false → 256 ≤ room bs q
+pub attachment-fits : (ds : List ℕ) (e : ℕ) (bs : List ℕ) (q : ℕ) (r : Bool) → r ≡ attachmentBad ds e bs q → r ≡ false → 256 ≤ room bs q
 unfolding attachmentBad
-attachment-fits ds e bs q h = ltb-false _ _ (none _ h 0)
+attachment-fits ds e bs q r i h = ltb-false _ _ (none _ (sym i ∙ h) 0)

@@ -7,10 +7,11 @@ use native.Mathlib.Omega.{arith}
 use lib.Dec.{eqb, leb, ltb}
 use lib.IntN.{pos, negsuc, _+ℤ_, _-ℤ_}
 use lib.Signed.{mag}
-use borrow.Author.Tests.{lt-ltb, ltb-true, ltb-false, leb-false, eqb-true, eqb-false, not-false}
-use Rattle.format.specs.Bytes.{sameAt, anyOf, anyBelow, leastBelow, signed32, biased}
+use borrow.Author.Tests.{lt-ltb, le-ltb, eq-eqb, ne-eqb, ltb-true, ltb-false, leb-false, eqb-true, eqb-false, not-false}
+use Rattle.format.specs.Bytes.{u32At, sameAt, anyOf, anyBelow, leastBelow, signed32, biased}
 use Rattle.format.specs.Names.{markTile}
-use Rattle.format.specs.Entry.{dimensionCount, letter, start, size, stored, storedField, dimensionPlace, nextEntry, headBad, letterBad, tooFar, isPlane, sizeBad, dimensionBad, hasLetter, repeats, closesPlane, dimensionsBad, letterIndex, letterPlace, pixelBytes}
+use Rattle.format.specs.Entry.{dimensionCount, letter, start, size, stored, storedField, dimensionPlace, nextEntry, hasLetter, letterIndex, letterPlace}
+use Rattle.format.specs.Entry.{headBad, letterBad, tooFar, isPlane, sizeBad, dimensionBad, repeats, closesPlane, dimensionsBad, pixelBytes}
 use Rattle.format.proofs.Below.{none, any-found, any-none, least-is, least-none}
 
 -- ---- the fixed part
@@ -43,7 +44,9 @@ size-ok : (bs : List ℕ) (d : ℕ) → sizeBad bs d ≡ false → (1 ≤ size b
 unfolding sizeBad
 size-ok bs d h = go (isPlane (letter bs d)) h
   where
-    go : (t : Bool) → cond t (anyOf (eqb (size bs d) 0 ∷ leb (2 ^ 31) (size bs d) ∷ [])) (anyOf (not (eqb (size bs d) 1) ∷ not (eqb (stored bs d) 1) ∷ [])) ≡ false → (1 ≤ size bs d) × (size bs d < 2 ^ 31)
+    go : (t : Bool)
+        → cond t (anyOf (eqb (size bs d) 0 ∷ leb (2 ^ 31) (size bs d) ∷ [])) (anyOf (not (eqb (size bs d) 1) ∷ not (eqb (stored bs d) 1) ∷ [])) ≡ false
+        → (1 ≤ size bs d) × (size bs d < 2 ^ 31)
     go true h =
         let zero = eqb-false (size bs d) 0 (none _ h 0) in
         let high = leb-false (2 ^ 31) (size bs d) (none _ h 1) in
@@ -95,13 +98,24 @@ pub end-signed : (x z : ℕ) → x < 2 ^ 32 → biased x + z < 2 ^ 32 → mag (s
 unfolding biased signed32
 end-signed x z fits h = go (ltb x (2 ^ 31)) refl
   where
-    sum : (b : Bool) → ltb z (suc (2 ^ 32 - suc x)) ≡ b → 2 ^ 31 ≤ x → mag (cond b (negsuc (suc (2 ^ 32 - suc x) - suc z)) (pos (z - suc (2 ^ 32 - suc x)))) < 2 ^ 31
+    sum : (b : Bool) → ltb z (suc (2 ^ 32 - suc x)) ≡ b → 2 ^ 31 ≤ x
+        → mag (cond b (negsuc (suc (2 ^ 32 - suc x) - suc z)) (pos (z - suc (2 ^ 32 - suc x)))) < 2 ^ 31
     sum true e l = omega arith
     sum false e l = omega (arith, ltb-false z (suc (2 ^ 32 - suc x)) e)
 
     go : (b : Bool) → ltb x (2 ^ 31) ≡ b → mag (cond b (pos x) (pos x -ℤ pos (2 ^ 32)) +ℤ pos z) < 2 ^ 31
     go true e = omega (arith, ltb-true x (2 ^ 31) e)
     go false e = rw (lt-ltb x (2 ^ 32) fits) (sum (ltb z (suc (2 ^ 32 - suc x))) refl (ltb-false x (2 ^ 31) e))
+
+-- a sum of biased numbers that were read: x and y of Start and Size
+module _ (bs : List ℕ) (d a b x y : ℕ) (i : a ≡ u32At bs (d + 4)) (j : b ≡ u32At bs (d + 8)) (k : x ≡ biased a) (l : y ≡ biased b) where
+  pub far : 6442450943 < x + y → true ≡ tooFar bs d
+  unfolding tooFar start size
+  far h = rw (← i, ← j, ← k, ← l) (sym (lt-ltb 6442450943 (x + y) h))
+
+  pub near : x + y ≤ 6442450943 → false ≡ tooFar bs d
+  unfolding tooFar start size
+  near h = rw (← i, ← j, ← k, ← l) (sym (le-ltb 6442450943 (x + y) h))
 
 -- ---- the place of a dimension
 
@@ -132,6 +146,16 @@ letter-placed bs e x h =
     let l = least-is (dimensionCount bs e) (hasLetter bs e x) h in
     record { index = l .below; within = dimension-within bs e _ (l .below); letter-is = eqb-true _ x (l .holds) }
 
+-- the stored size a and Size b of the dimension of the letter l, which were read at d
+module _ (bs : List ℕ) (e l d a b : ℕ) (i : d ≡ letterPlace bs e l) (j : a ≡ stored bs d) (k : b ≡ u32At bs (d + 8)) where
+  pub size-other : (a ≡ b → ⊥) → eqb (stored bs (letterPlace bs e l)) (size bs (letterPlace bs e l)) ≡ false
+  unfolding size
+  size-other h = rw (← i, ← j, ← k) (ne-eqb a b h)
+
+  pub size-same : a ≡ b → eqb (stored bs (letterPlace bs e l)) (size bs (letterPlace bs e l)) ≡ true
+  unfolding size
+  size-same h = rw (← i, ← j, ← k) (eq-eqb a b h)
+
 -- ---- the dimensions of an entry
 
 pub record Planed (bs : List ℕ) (e : ℕ) : Type 0 where
@@ -142,15 +166,22 @@ pub record Planed (bs : List ℕ) (e : ℕ) : Type 0 where
   pub x-sized : Sized bs (letterPlace bs e 88)
   pub y-sized : Sized bs (letterPlace bs e 89)
 
+abbrev Has : List ℕ → ℕ → ℕ → Type 0
+Has bs e x = anyBelow (dimensionCount bs e) (hasLetter bs e x) ≡ true
+
 -- Y stands, and X before it
-both : (bs : List ℕ) (e : ℕ) → anyBelow (dimensionCount bs e) (closesPlane bs e) ≡ true → (anyBelow (dimensionCount bs e) (hasLetter bs e 88) ≡ true) × (anyBelow (dimensionCount bs e) (hasLetter bs e 89) ≡ true)
+both : (bs : List ℕ) (e : ℕ) → anyBelow (dimensionCount bs e) (closesPlane bs e) ≡ true → Has bs e 88 × Has bs e 89
 unfolding closesPlane
-both bs e h = let l = least-is (dimensionCount bs e) (closesPlane bs e) h in go (leastBelow (dimensionCount bs e) (closesPlane bs e)) (l .below) (hasLetter bs e 89 (leastBelow (dimensionCount bs e) (closesPlane bs e))) refl (l .holds)
+both bs e h =
+    let l = least-is (dimensionCount bs e) (closesPlane bs e) h in
+    let j = leastBelow (dimensionCount bs e) (closesPlane bs e) in
+    go j (l .below) (hasLetter bs e 89 j) refl (l .holds)
   where
-    go : (j : ℕ) → j < dimensionCount bs e → (t : Bool) → hasLetter bs e 89 j ≡ t → cond t (anyBelow j (hasLetter bs e 88)) false ≡ true → (anyBelow (dimensionCount bs e) (hasLetter bs e 88) ≡ true) × (anyBelow (dimensionCount bs e) (hasLetter bs e 89) ≡ true)
+    go : (j : ℕ) → j < dimensionCount bs e → (t : Bool) → hasLetter bs e 89 j ≡ t → cond t (anyBelow j (hasLetter bs e 88)) false ≡ true
+        → Has bs e 88 × Has bs e 89
     go j b true y h =
         let m = least-is j (hasLetter bs e 88) h in
-        (any-found (dimensionCount bs e) (leastBelow j (hasLetter bs e 88)) (hasLetter bs e 88) (omega (arith, m .below)) (m .holds), any-found (dimensionCount bs e) j (hasLetter bs e 89) b y)
+        (any-found _ _ _ (omega (arith, m .below)) (m .holds), any-found _ j _ b y)
     go j b false y h = absurd (true≢false (sym h))
 
 -- no letter stands before dimension j that it has itself

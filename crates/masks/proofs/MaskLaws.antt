@@ -5,7 +5,7 @@ use mathlib.Core.List.{List, [], _∷_}
 use mathlib.Core.Bool.{Bool, true, false, true≢false}
 use native.Mathlib.Omega.{arith}
 use native.Mathlib.Nat.{mul-le-mul-right}
-use lib.ListN.{getD}
+use lib.ListN.{length, getD}
 use borrow.Author.Tests.{ltb-false, leb-false}
 use Rattle.format.specs.Bytes.{anyOf}
 use Rattle.format.specs.Checks.{first}
@@ -74,9 +74,10 @@ pub byte-place : (c stride x y : ℕ) → c + 36 + y * stride + x / 8 ≡ maskBy
 unfolding maskByte
 byte-place c stride x y = omega arith
 
--- its byte lies in the payload
-pub byte-within : (bs : List ℕ) (c x y : ℕ) → maskBad bs c ≡ false → x < maskWidth bs c → y < maskHeight bs c → maskByte c (maskStride bs c) x y < c + 20 + chunkSize bs c
-unfolding maskByte
-byte-within bs c x y e i j =
+-- its byte lies in the slice: width w, height h and stride r are those that were read
+pub byte-read : (bs : List ℕ) (c x y w h r : ℕ) → maskBad bs c ≡ false → c + 20 + chunkSize bs c ≤ length bs
+    → w ≡ maskWidth bs c → x < w → h ≡ maskHeight bs c → y < h → r ≡ maskStride bs c → c + 36 + y * r + x / 8 < length bs
+byte-read bs c x y w h r e l i j k m n =
     let f = mask-fits bs c e in
-    omega (arith, f .lines, pixel-within x y (maskWidth bs c) (maskHeight bs c) (maskStride bs c) i (f .columns) j)
+    let p = pixel-within x y (maskWidth bs c) (maskHeight bs c) (maskStride bs c) (omega arith) (f .columns) (omega arith) in
+    rw n (omega (arith, f .lines, p))

@@ -1,5 +1,5 @@
 -- The index of the walked segment that a position names, by the index of the position in the walk. Assumes nothing.
-use Prim.Native.Nat.{ℕ, _<_}
+use Prim.Native.Nat.{ℕ, _+_, _≤_, _<_}
 use mathlib.Core.Path.{_≡_, refl, sym, ap, _∙_}
 use mathlib.Core.List.{List}
 use mathlib.Core.Bool.{Bool, true, false, cond, and-false}
@@ -11,6 +11,7 @@ use borrow.Author.Tests.{lt-ltb, le-ltb}
 use Rattle.format.specs.Bytes.{sameAt}
 use Rattle.format.specs.Segments.{walked, member, walkedAs}
 use Rattle.format.proofs.Below.{and-both}
+use Rattle.format.proofs.SegmentLaws.{next-is, walked-sized}
 use Rattle.segments.specs.Walk.{Filled, indexIn, indexAs}
 use Rattle.segments.proofs.Search.{index-member, member-index}
 
@@ -19,28 +20,35 @@ count-is bs table count f = sym (length-take-le count table (omega (arith, f .fe
 
 -- ---- k is the index of q in the table
 
-module _ (bs table : List ℕ) (count q : ℕ) (name : List ℕ) (f : Filled bs table count) (k : ℕ) (e : k ≡ indexIn q (take count table)) where
+module _ (bs table : List ℕ) (count q : ℕ) (f : Filled bs table count) (k : ℕ) (e : k ≡ indexIn q (take count table)) where
   index-is : k ≡ indexIn q (walked bs)
   index-is = rw (f .holds) at e
 
-  pub found : (k ≡ count → ⊥) → member q (walked bs) ≡ true
+  found : (k ≡ count → ⊥) → member q (walked bs) ≡ true
   found h = member-index (walked bs) q (λ n. h (index-is ∙ (n ∙ sym (count-is bs table count f))))
 
-  pub not-found : k ≡ count → count ≡ indexAs bs q name
-  unfolding indexAs
-  not-found h = rw (← index-is, h, ← count-is bs table count f) (go (walkedAs bs q name))
-    where
-      go : (b : Bool) → count ≡ cond b count count
-      go true = refl
-      go false = refl
+  -- the name of the segment at q lies in the file
+  pub found-in : (k ≡ count → ⊥) → q + 16 ≤ length bs
+  found-in h = omega (arith, next-is bs q, walked-sized bs q (found h) .within)
 
-  pub of-kind : (k ≡ count → ⊥) → sameAt bs q name ≡ true → k ≡ indexAs bs q name
-  unfolding indexAs walkedAs
-  of-kind h s = rw (found h, s) index-is
+  module _ (name : List ℕ) where
+    pub not-found : k ≡ count → count ≡ indexAs bs q name
+    unfolding indexAs
+    not-found h = rw (← index-is, h, ← count-is bs table count f) (go (walkedAs bs q name))
+      where
+        go : (b : Bool) → count ≡ cond b count count
+        go true = refl
+        go false = refl
 
-  pub of-other : sameAt bs q name ≡ false → count ≡ indexAs bs q name
-  unfolding indexAs walkedAs
-  of-other s = rw (s, and-false (member q (walked bs))) (count-is bs table count f)
+    -- r is whether it is that name
+    module _ (r : Bool) (i : r ≡ sameAt bs q name) where
+      pub of-kind : (k ≡ count → ⊥) → r ≡ true → k ≡ indexAs bs q name
+      unfolding indexAs walkedAs
+      of-kind h t = rw (found h, sym i ∙ t) index-is
+
+      pub of-other : r ≡ false → count ≡ indexAs bs q name
+      unfolding indexAs walkedAs
+      of-other t = rw (sym i ∙ t, and-false (member q (walked bs))) (count-is bs table count f)
 
 -- ---- what the index of a named segment tells
 

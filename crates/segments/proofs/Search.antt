@@ -1,12 +1,13 @@
 -- The index of a position in a list, and its search in a rising one by halving. Assumes nothing.
-use Prim.Native.Nat.{ℕ, zero, suc, _+_, _≤_, _<_, suc-le-suc, zero-le}
-use mathlib.Core.Path.{_≡_, refl, sym, subst, _∙_}
+use Prim.Native.Nat.{ℕ, zero, suc, _+_, _-_, _/_, _≤_, _<_, suc-le-suc, zero-le}
+use mathlib.Core.Path.{_≡_, refl, sym, _∙_}
 use mathlib.Core.Logic.{_⊎_, inl, inr, ⊎-elim}
 use mathlib.Core.List.{List}
 use mathlib.Core.Bool.{Bool, true, false, true≢false}
 use native.Mathlib.Omega.{arith}
 use native.Mathlib.Nat.{eq-or-lt-of-le}
-use lib.ListN.{length, getD}
+use lib.ListN.{length, getD, take}
+use lib.Seq.{getD-take, length-take-le}
 use lib.Dec.{eqb}
 use borrow.Author.Tests.{eq-eqb, ne-eqb, eqb-true}
 use Rattle.format.specs.Segments.{member}
@@ -51,36 +52,52 @@ module _ (l : List ℕ) (q : ℕ) where
       go true e = e
       go false e = absurd (h (index-none (λ i k f. true≢false (sym (member-at l q i k f) ∙ e))))
 
--- q is not below lo and not from hi on
-pub record Between (l : List ℕ) (q lo hi : ℕ) : Type 0 where
+-- of the first n elements of the table t, q is none below lo and none from hi on
+pub record Between (t : List ℕ) (n q lo hi : ℕ) : Type 0 where
   pub order : lo ≤ hi
-  pub within : hi ≤ length l
-  pub below : (i : ℕ) → i < lo → getD l i 0 < q
-  pub above : (i : ℕ) → hi ≤ i → i < length l → q < getD l i 0
+  pub within : hi ≤ n
+  pub below : (i : ℕ) → i < lo → getD t i 0 < q
+  pub above : (i : ℕ) → hi ≤ i → i < n → q < getD t i 0
 
-pub start : (l : List ℕ) (q n : ℕ) → n ≡ length l → Between l q 0 n
-start l q n e = record { order = omega arith; within = omega arith; below = λ i h. absurd (omega arith); above = λ i h k. absurd (omega arith) }
+pub start : (t : List ℕ) (n q : ℕ) → Between t n q 0 n
+start t n q = record { order = omega arith; within = omega arith; below = λ i h. absurd (omega arith); above = λ i h k. absurd (omega arith) }
 
-module _ (l : List ℕ) (q lo hi m : ℕ) (r : Rising l) (b : Between l q lo hi) (lm : lo ≤ m) (mh : m < hi) where
-  pub up : getD l m 0 < q → Between l q (m + 1) hi
-  up h = record {
-    order = omega arith;
-    within = b .within;
-    below = λ i k. ⊎-elim (λ (e : i ≡ m). subst (λ (j : ℕ). getD l j 0 < q) (sym e) h) (λ (k′ : i < m). omega (arith, r i m k′ (omega arith))) (eq-or-lt-of-le (omega arith));
-    above = b .above;
-  }
+-- the elements rise
+module _ (t : List ℕ) (n q lo hi : ℕ) (s : (n ≤ 8192) × (length t ≡ 8192)) (r : Rising (take n t)) (b : Between t n q lo hi) where
+  size : length (take n t) ≡ n
+  size = length-take-le n t (omega arith)
 
-  pub down : q < getD l m 0 → Between l q lo m
-  down h = record {
-    order = lm;
-    within = omega arith;
-    below = b .below;
-    above = λ i k n. ⊎-elim (λ (e : m ≡ i). subst (λ (j : ℕ). q < getD l j 0) e h) (λ (k′ : m < i). omega (arith, r m i k′ n)) (eq-or-lt-of-le k);
-  }
+  rises : (i j : ℕ) → i < j → j < n → getD t i 0 < getD t j 0
+  rises i j h k = omega (arith, r i j h (rw size k), getD-take n t i 0 (omega arith), getD-take n t j 0 k)
 
-pub met : (l : List ℕ) (q m : ℕ) → Rising l → m < length l → getD l m 0 ≡ q → indexIn q l ≡ m
-met l q m r h e = index-at l q m h (λ i k f. omega (arith, r i m k h)) e
+  pub done : hi ≤ lo → n ≡ indexIn q (take n t)
+  done h = sym (index-none (take n t) q (λ i k e. ⊎-elim (λ u. over i k e u) (λ u. under i k e u) (le-or-lt hi i)) ∙ size)
+    where
+      over : (i : ℕ) → i < length (take n t) → getD (take n t) i 0 ≡ q → hi ≤ i → ⊥
+      over i k e u = let l : i < n = rw size at k in omega (arith, b .above i u l, getD-take n t i 0 l)
 
-pub done : (l : List ℕ) (q lo hi : ℕ) → Between l q lo hi → hi ≤ lo → indexIn q l ≡ length l
-done l q lo hi b h =
-    index-none l q (λ i k e. ⊎-elim (λ (u : hi ≤ i). omega (arith, b .above i u k)) (λ (u : i < hi). omega (arith, b .below i (omega arith))) (le-or-lt hi i))
+      under : (i : ℕ) → i < length (take n t) → getD (take n t) i 0 ≡ q → i < hi → ⊥
+      under i k e u = omega (arith, b .below i (omega arith), getD-take n t i 0 (rw size at k))
+
+  -- one turn: the element in the middle, at m, is q, below q or above it
+  module _ (l : lo < hi) (m : ℕ) (e : m ≡ lo + (hi - lo) / 2) where
+    pub met : getD t m 0 ≡ q → m ≡ indexIn q (take n t)
+    met h =
+        let k : m < n = omega arith in
+        sym (index-at (take n t) q m (rw size k) (λ i j f. omega (arith, rises i m j k, getD-take n t i 0 (omega arith))) (getD-take n t m 0 k ∙ h))
+
+    pub up : getD t m 0 < q → Between t n q (m + 1) hi
+    up h = record {
+      order = omega arith;
+      within = b .within;
+      below = λ i k. ⊎-elim (λ (f : i ≡ m). rw f h) (λ (j : i < m). omega (arith, rises i m j (omega arith))) (eq-or-lt-of-le (omega arith));
+      above = b .above;
+    }
+
+    pub down : (getD t m 0 ≡ q → ⊥) → q ≤ getD t m 0 → Between t n q lo m
+    down u h = record {
+      order = omega arith;
+      within = omega arith;
+      below = b .below;
+      above = λ i k j. ⊎-elim (λ (f : m ≡ i). rw (← f) (omega (arith, u))) (λ (f : m < i). omega (arith, rises m i f j)) (eq-or-lt-of-le k);
+    }

@@ -16,43 +16,18 @@ Inv-loop s table count t n k₀ k = (k ≤ n) × (first (rowsBelow k (λ j. atta
 abbrev μ-loop : tie.MeasureT-loop
 μ-loop s table count t n k₀ k = n - k
 
-loop-holds : tie.Need-loop-holds Inv-loop μ-loop
-loop-holds c = (omega arith, rows-zero _)
-
-add-judge-attachment-entry : tie.Need-add-judge-attachment-entry Inv-loop μ-loop
-add-judge-attachment-entry c = omega arith
-
-mul-judge-attachment-entry : tie.Need-mul-judge-attachment-entry Inv-loop μ-loop
-mul-judge-attachment-entry c = omega arith
-
-add-judge-attachment-entry-2 : tie.Need-add-judge-attachment-entry-2 Inv-loop μ-loop
-add-judge-attachment-entry-2 c = omega arith
-
-judge-attachment-entry-requires : tie.Need-judge-attachment-entry-requires Inv-loop μ-loop
-judge-attachment-entry-requires c κs = search needs
-
-enum-known-v : tie.Need-enum-known-v Inv-loop μ-loop
-enum-known-v c = search needs
-
 returns : tie.Need-returns Inv-loop μ-loop
 unfolding attachmentEntry
-returns c = let j = c .before .before .before in sym (rows-stop _ _ _ _ _ (j .before .loop-test .taken) (j .before .before .loop .inv .1) (sym (j .judge-attachment-entry .ensures) ∙ c .before .v .given .1))
-
-enum-told : tie.Need-enum-told Inv-loop μ-loop
-enum-told c = search needs
-
-add-k : tie.Need-add-k Inv-loop μ-loop
-add-k c = omega arith
-
-loop-less : tie.Need-loop-less Inv-loop μ-loop
-loop-less c = omega arith
+returns c =
+    let j = c .before .before .before in
+    let e = sym (j .judge-attachment-entry .ensures) ∙ c .before .v .given .1 in
+    sym (rows-stop _ _ _ _ _ (j .before .loop-test .taken) (j .before .before .loop .inv .1) e)
 
 loop-again : tie.Need-loop-again Inv-loop μ-loop
 unfolding attachmentEntry
-loop-again c = let j = c .before .before in (omega arith, rows-more _ _ (j .before .before .loop .inv .1) (sym (j .judge-attachment-entry .ensures) ∙ c .enum-told .given .1))
-
-returns-2 : tie.Need-returns-2 Inv-loop μ-loop
-returns-2 c = let e : c .before .loop .k ≡ c .before .before .before .args .n = omega arith in rw (← e) (sym (c .before .loop .inv .1))
+loop-again c =
+    let j = c .before .before in
+    (omega arith, rows-more _ _ (j .before .before .loop .inv .1) (sym (j .judge-attachment-entry .ensures) ∙ c .enum-told .given .1))
 
 pub judge-attachment-entries-spec : {M : Type 1} → statement M
 judge-attachment-entries-spec =
@@ -60,15 +35,15 @@ judge-attachment-entries-spec =
     (tie.spec
     Inv-loop
     μ-loop
-    loop-holds
-    add-judge-attachment-entry
-    mul-judge-attachment-entry
-    add-judge-attachment-entry-2
-    judge-attachment-entry-requires
-    enum-known-v
+    (λ c. (omega arith, rows-zero _))
+    (λ c. omega arith)
+    (λ c. omega arith)
+    (λ c. omega arith)
+    (λ c κs. search needs)
+    (λ c. search needs)
     returns
-    enum-told
-    add-k
-    loop-less
+    (λ c. search needs)
+    (λ c. omega arith)
+    (λ c. omega arith)
     loop-again
-    returns-2)
+    (λ c. let e : c .before .loop .k ≡ c .before .before .before .args .n = omega arith in rw (← e) (sym (c .before .loop .inv .1))))

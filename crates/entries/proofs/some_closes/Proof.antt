@@ -6,49 +6,18 @@ use Rattle.entries.proofs.Passed.{Passed, passed-start, passed-next, pa
 use Rattle.entries.proofs.some_closes.Statement.{statement}
 use Rattle.entries.proofs.some_closes.Tie as tie
 
-abbrev Inv-loop : tie.InvT-loop
-Inv-loop s e n k₀ k = Passed (dimensionCount s e) (closesPlane s e) k
-
-abbrev μ-loop : tie.MeasureT-loop
-μ-loop s e n k₀ k = n - k
-
-dimension-count-requires : tie.Need-dimension-count-requires Inv-loop μ-loop
-unfolding nextEntry
-dimension-count-requires c κs = omega arith
-
-loop-holds : tie.Need-loop-holds Inv-loop μ-loop
-loop-holds c = passed-start _ _
-
-closes-plane-requires : tie.Need-closes-plane-requires Inv-loop μ-loop
-unfolding nextEntry
-closes-plane-requires c κs = omega arith
-
-returns : tie.Need-returns Inv-loop μ-loop
-returns c = passed-found _ _ _ (c .before .before .before .loop .inv) _ (omega arith) (c .before .closes-plane .ensures) (c .if1 .taken)
-
-add-k : tie.Need-add-k Inv-loop μ-loop
-add-k c = omega arith
-
-loop-less : tie.Need-loop-less Inv-loop μ-loop
-loop-less c = omega arith
-
-loop-again : tie.Need-loop-again Inv-loop μ-loop
-loop-again c = passed-next _ _ _ (c .before .before .before .loop .inv) _ (omega arith) (c .before .closes-plane .ensures) (c .if1 .left)
-
-returns-2 : tie.Need-returns-2 Inv-loop μ-loop
-returns-2 c = passed-end _ _ _ (c .before .loop .inv) (omega arith)
-
 pub some-closes-spec : {M : Type 1} → statement M
+unfolding nextEntry
 some-closes-spec =
     tie.close
     (tie.spec
-    Inv-loop
-    μ-loop
-    dimension-count-requires
-    loop-holds
-    closes-plane-requires
-    returns
-    add-k
-    loop-less
-    loop-again
-    returns-2)
+    (λ s e n k₀ k. Passed (dimensionCount s e) (closesPlane s e) k)
+    (λ s e n k₀ k. n - k)
+    (λ c κs. omega arith)
+    (λ c. passed-start _ _)
+    (λ c κs. omega arith)
+    (λ c. search passed-found)
+    (λ c. omega arith)
+    (λ c. omega arith)
+    (λ c. search passed-next)
+    (λ c. search passed-end))

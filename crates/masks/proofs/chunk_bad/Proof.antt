@@ -9,38 +9,16 @@ use Rattle.masks.proofs.MaskLaws.{any-at}
 use Rattle.masks.proofs.chunk_bad.Statement.{statement}
 use Rattle.masks.proofs.chunk_bad.Tie as tie
 
-add-if1 : tie.Need-add-if1
-add-if1 c = search needs
-
-returns : tie.Need-returns
-unfolding chunkBad
-returns c =
-    let a = c .before .before .args in
-    let short : a .end < a .c + 20 = omega arith in
-    any-at _ 0 (lt-ltb _ _ short)
-
-chunk-size-requires : tie.Need-chunk-size-requires
-chunk-size-requires c κs = search needs
-
-returns-2 : tie.Need-returns-2
-unfolding chunkBad nextChunk
-returns-2 c = search flags depth 8
-
-add-if3 : tie.Need-add-if3
-add-if3 c = search needs
-
-add-if3-2 : tie.Need-add-if3-2
-add-if3-2 c = search needs
-
-returns-3 : tie.Need-returns-3
-unfolding chunkBad nextChunk
-returns-3 c = rw (← c .before .before .chunk-size .ensures .0) (search flags depth 8)
-
-returns-4 : tie.Need-returns-4
-unfolding chunkBad nextChunk
-returns-4 c = rw (← c .before .before .chunk-size .ensures .0) (search flags depth 8)
-
 pub chunk-bad-spec : {M : Type 1} → statement M
+unfolding chunkBad nextChunk
 chunk-bad-spec =
     tie.close
-    (tie.spec add-if1 returns chunk-size-requires returns-2 add-if3 add-if3-2 returns-3 returns-4)
+    (tie.spec
+    (λ c. search needs)
+    (λ c. let a = c .before .before .args in let short : a .end < a .c + 20 = omega arith in any-at _ 0 (lt-ltb _ _ short))
+    (λ c κs. search needs)
+    (λ c. search flags depth 8)
+    (λ c. search needs)
+    (λ c. search needs)
+    (λ c. rw (← c .before .before .chunk-size .ensures .0) (search flags depth 8))
+    (λ c. rw (← c .before .before .chunk-size .ensures .0) (search flags depth 8)))

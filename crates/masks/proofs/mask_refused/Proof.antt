@@ -5,24 +5,13 @@ use Rattle.format.specs.Masks.{maskRefused}
 use Rattle.masks.proofs.mask_refused.Statement.{statement}
 use Rattle.masks.proofs.mask_refused.Tie as tie
 
-is-mask-requires : tie.Need-is-mask-requires
-is-mask-requires c κs = search needs
-
-returns : tie.Need-returns
-unfolding maskRefused
-returns c = search flags depth 8
-
-mask-bad-requires : tie.Need-mask-bad-requires
-mask-bad-requires c κs = search needs
-
-returns-2 : tie.Need-returns-2
-unfolding maskRefused
-returns-2 c = search flags depth 8
-
-returns-3 : tie.Need-returns-3
-unfolding maskRefused
-returns-3 c = search flags depth 8
-
 pub mask-refused-spec : {M : Type 1} → statement M
+unfolding maskRefused
 mask-refused-spec =
-    tie.close (tie.spec is-mask-requires returns mask-bad-requires returns-2 returns-3)
+    tie.close
+    (tie.spec
+    (λ c κs. search needs)
+    (λ c. search flags depth 8)
+    (λ c κs. search needs)
+    (λ c. search flags depth 8)
+    (λ c. search flags depth 8))

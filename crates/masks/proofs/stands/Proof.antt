@@ -24,42 +24,13 @@ Inv-outer s p count m found₀ i₀ found i = (found ≡ false) × (i ≤ count)
 abbrev μ-outer : tie.MeasureT-outer
 μ-outer s p count m found₀ i₀ found i = count - i
 
-outer-holds : tie.Need-outer-holds Inv-loop μ-loop Inv-outer μ-outer
-outer-holds c = (refl, omega arith, any-zero _)
-
-add-at : tie.Need-add-at Inv-loop μ-loop Inv-outer μ-outer
-add-at c = omega arith
-
-loop-holds : tie.Need-loop-holds Inv-loop μ-loop Inv-outer μ-outer
-loop-holds c = (refl, omega arith, all-zero _)
-
-add-if1 : tie.Need-add-if1 Inv-loop μ-loop Inv-outer μ-outer
-add-if1 c = omega arith
-
-shared-slice-read-if1 : tie.Need-shared-slice-read-if1 Inv-loop μ-loop Inv-outer μ-outer
-shared-slice-read-if1 c = omega arith
-
-shared-slice-read-if1-2 : tie.Need-shared-slice-read-if1-2 Inv-loop μ-loop Inv-outer μ-outer
-shared-slice-read-if1-2 c = omega arith
-
-add-i : tie.Need-add-i Inv-loop μ-loop Inv-outer μ-outer
-add-i c = omega arith
-
-outer-less : tie.Need-outer-less Inv-loop μ-loop Inv-outer μ-outer
-outer-less c = omega arith
-
 outer-again : tie.Need-outer-again Inv-loop μ-loop Inv-outer μ-outer
 unfolding sameAt
 outer-again c =
     let l = c .before .before .before .before in
     let o = l .before .before in
-    (o .outer .inv .0, omega arith, rw (l .loop .inv .0) (any-more _ _ (o .outer .inv .2) (all-fails _ _ _ (c .before .before .before .loop-test .taken) (ne-eqb _ _ (c .if1 .taken)))))
-
-add-j : tie.Need-add-j Inv-loop μ-loop Inv-outer μ-outer
-add-j c = omega arith
-
-loop-less : tie.Need-loop-less Inv-loop μ-loop Inv-outer μ-outer
-loop-less c = omega arith
+    let t = c .before .before .before .loop-test .taken in
+    (o .outer .inv .0, omega arith, rw (l .loop .inv .0) (any-more _ _ (o .outer .inv .2) (all-fails _ _ _ t (ne-eqb _ _ (c .if1 .taken)))))
 
 loop-again : tie.Need-loop-again Inv-loop μ-loop Inv-outer μ-outer
 loop-again c =
@@ -87,17 +58,17 @@ stands-spec =
     μ-loop
     Inv-outer
     μ-outer
-    outer-holds
-    add-at
-    loop-holds
-    add-if1
-    shared-slice-read-if1
-    shared-slice-read-if1-2
-    add-i
-    outer-less
+    (λ c. (refl, omega arith, any-zero _))
+    (λ c. omega arith)
+    (λ c. (refl, omega arith, all-zero _))
+    (λ c. omega arith)
+    (λ c. omega arith)
+    (λ c. omega arith)
+    (λ c. omega arith)
+    (λ c. omega arith)
     outer-again
-    add-j
-    loop-less
+    (λ c. omega arith)
+    (λ c. omega arith)
     loop-again
     returns
     returns-2)

@@ -10,15 +10,6 @@ use Rattle.format.specs.Segments.{endBad, nextSegment}
 use Rattle.segments.proofs.end_bad.Statement.{statement}
 use Rattle.segments.proofs.end_bad.Tie as tie
 
-sub-left : tie.Need-sub-left
-sub-left c = search needs
-
-sub-left-2 : tie.Need-sub-left-2
-sub-left-2 c = search needs
-
-allocated-at-requires : tie.Need-allocated-at-requires
-allocated-at-requires c κs = search needs
-
 returns : tie.Need-returns
 unfolding endBad nextSegment
 returns c =
@@ -34,4 +25,4 @@ returns-2 c =
     sym (rw (← c .before .allocated-at .ensures) (le-ltb _ _ within))
 
 pub end-bad-spec : {M : Type 1} → statement M
-end-bad-spec = tie.close (tie.spec sub-left sub-left-2 allocated-at-requires returns returns-2)
+end-bad-spec = tie.close (tie.spec (λ c. search needs) (λ c. search needs) (λ c κs. search needs) returns returns-2)

@@ -4,15 +4,6 @@ use Rattle.format.specs.Names.{nameDirectory}
 use Rattle.segments.proofs.is_directory.Statement.{statement}
 use Rattle.segments.proofs.is_directory.Tie as tie
 
-slice-aggregate-same-name : tie.Need-slice-aggregate-same-name
-slice-aggregate-same-name c = search needs
-
-same-name-requires : tie.Need-same-name-requires
-same-name-requires c κs = search needs
-
-returns : tie.Need-returns
-unfolding nameDirectory
-returns c = c .same-name .ensures
-
 pub is-directory-spec : {M : Type 1} → statement M
-is-directory-spec = tie.close (tie.spec slice-aggregate-same-name same-name-requires returns)
+unfolding nameDirectory
+is-directory-spec = tie.close (tie.spec (λ c. search needs) (λ c κs. search needs) (λ c. c .same-name .ensures))
