@@ -1,14 +1,14 @@
 // Judges what a question asks and lends: the refusals 20, 21, 22.
 use format::Verdict;
-use question::Frame;
 use question::Masks;
+use question::WindowRequest;
 use turns::Rect;
 ghost use mathlib.Core.Path.{_≡_};
 ghost use mathlib.Core.Bool.{false};
 ghost use Prim.Native.Nat.{_+_, _≤_, _<_, _^_};
 ghost use Rattle.format.specs.Checks.{first};
 ghost use Rattle.turns.specs.TileOf as Turns;
-ghost use Rattle.question.specs.Question.{masksOn, windowOf, windowBad, pixelBad, lentBad, askRows};
+ghost use Rattle.question.specs.Question.{masksOn, requestWindow, windowBad, pixelBad, lentBad, askRows};
 
 // Whether masks count.
 pub fn masks_on(m: Masks) -> bool
@@ -22,9 +22,9 @@ pub fn masks_on(m: Masks) -> bool
 }
 
 // The window in plane coordinates: the signed ones plus 2^31.
-pub fn window_of(f: Frame) -> Rect
+pub fn window_of(f: WindowRequest) -> Rect
     requires { ⌜ (f .width ≤ 65536) × (f .height ≤ 65536) ⌝ }
-    ensures { λ r. ⌜ Turns.windowOf r ≡ windowOf f ⌝ }
+    ensures { λ r. ⌜ Turns.windowOf r ≡ requestWindow f ⌝ }
 {
     let left = f.left;
     let top = f.top;
@@ -39,8 +39,8 @@ pub fn window_of(f: Frame) -> Rect
 }
 
 // Refusal 20.
-fn window_bad(f: Frame) -> bool
-    ensures { λ r. ⌜ r ≡ windowBad (windowOf f) ⌝ }
+fn window_bad(f: WindowRequest) -> bool
+    ensures { λ r. ⌜ r ≡ windowBad (requestWindow f) ⌝ }
 {
     let width = f.width;
     let height = f.height;
@@ -82,9 +82,9 @@ fn pixel_bad(t: u64, background: &[u8]) -> bool
 }
 
 // Refusal 22, of a window whose sides are right.
-fn lent_bad(f: Frame, target: u64, map: u64) -> bool
-    requires { ⌜ windowBad (windowOf f) ≡ false ⌝ }
-    ensures { λ r. ⌜ r ≡ lentBad (windowOf f) (f .«pixel_type») target map ⌝ }
+fn lent_bad(f: WindowRequest, target: u64, map: u64) -> bool
+    requires { ⌜ windowBad (requestWindow f) ≡ false ⌝ }
+    ensures { λ r. ⌜ r ≡ lentBad (requestWindow f) (f .«pixel_type») target map ⌝ }
 {
     let width = f.width;
     let height = f.height;
@@ -100,7 +100,7 @@ fn lent_bad(f: Frame, target: u64, map: u64) -> bool
 }
 
 // The refusals 20, 21, 22, of a target and a map of these lengths.
-pub fn ask(f: Frame, background: &[u8], target: u64, map: u64) -> Verdict
+pub fn ask(f: WindowRequest, background: &[u8], target: u64, map: u64) -> Verdict
     ensures { λ r. ⌜ r ≡ first (askRows f (now (background .entry)) target map) ⌝ }
 {
     if window_bad(f) {

@@ -9,7 +9,7 @@ ghost use Rattle.format.specs.Checks.{first, rowsBelow};
 ghost use Rattle.format.specs.Segments.{room, RoomIn};
 ghost use Rattle.format.specs.File.{metadataPosition, attachmentDirectoryPosition};
 ghost use Rattle.format.specs.Attachments.{metadataBad, metadataRows, attachmentDirectoryBad, attachmentEntry, attachmentEntryBad, attachmentBad, attachmentDataBad, attachmentEntryRows, attachmentsRows};
-ghost use Rattle.segments.specs.Walk.{Filled};
+ghost use Rattle.segments.specs.Walk.{WalkTable};
 
 // ---- the metadata segment
 
@@ -139,7 +139,7 @@ fn attachment_data_bad(s: &[u8], q: u64) -> bool
 
 // An entry A1 at e and its attachment: 11, 7, 14, 15, 16.
 fn judge_attachment_entry(s: &[u8], table: &[u64; 8192], count: usize, e: u64) -> Verdict
-    requires { ⌜ Filled (now s) (now table) count ⌝ }
+    requires { ⌜ WalkTable (now s) (now table) count ⌝ }
     requires { ⌜ e + 128 ≤ length (now s) ⌝ }
     ensures { λ r. ⌜ r ≡ first (attachmentEntryRows (now (s .entry)) e) ⌝ }
 {
@@ -179,7 +179,7 @@ fn judge_attachment_entry(s: &[u8], table: &[u64; 8192], count: usize, e: u64) -
 
 // The n entries of the attachment directory at t, in order.
 fn judge_attachment_entries(s: &[u8], table: &[u64; 8192], count: usize, t: u64, n: u64) -> Verdict
-    requires { ⌜ Filled (now s) (now table) count ⌝ }
+    requires { ⌜ WalkTable (now s) (now table) count ⌝ }
     requires { ⌜ t + 288 + 128 * n ≤ length (now s) ⌝ }
     ensures { λ r. ⌜ r ≡ first (rowsBelow n (λ k. attachmentEntryRows (now (s .entry)) (attachmentEntry t k))) ⌝ }
 {
@@ -200,7 +200,7 @@ fn judge_attachment_entries(s: &[u8], table: &[u64; 8192], count: usize, t: u64,
 
 // The attachment directory, if there is one.
 pub fn judge_attachments(s: &[u8], table: &[u64; 8192], count: usize) -> Verdict
-    requires { ⌜ Filled (now s) (now table) count ⌝ }
+    requires { ⌜ WalkTable (now s) (now table) count ⌝ }
     requires { ⌜ 112 ≤ length (now s) ⌝ }
     requires { ⌜ ((attachmentDirectoryPosition (now s) ≡ 0 → ⊥) → RoomIn (now s) (attachmentDirectoryPosition (now s))) ⌝ }
     ensures { λ r. ⌜ r ≡ first (attachmentsRows (now (s .entry))) ⌝ }

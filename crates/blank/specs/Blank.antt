@@ -15,8 +15,8 @@ pub record FillRoom (t : List ℕ) (n b : ℕ) (bg : List ℕ) : Type 0 where
   pub pixel : length bg ≡ b
 
 -- each of the n pixels is the background, and the bytes past them are as they were
-abbrev pub Filled : List ℕ → ℕ → ℕ → List ℕ → List ℕ → Type 0
-Filled t n b bg t′ = t′ ≡ paint n b (λ p. true) (λ p j. getD bg j 0) t
+abbrev pub BackgroundFilled : List ℕ → ℕ → ℕ → List ℕ → List ℕ → Type 0
+BackgroundFilled t n b bg t′ = t′ ≡ paint n b (λ p. true) (λ p j. getD bg j 0) t
 
 -- the bytes that hold the first n bits are zero, and those past them are as they were
 abbrev pub Cleared : List ℕ → ℕ → List ℕ → Type 0

@@ -6,7 +6,7 @@ ghost use lib.Dec.{leb};
 ghost use lib.ListN.{length, getD};
 ghost use Rattle.copies.specs.Copied.{blockSize};
 ghost use Rattle.blank.specs.Front.{front, Alike};
-ghost use Rattle.blank.specs.Blank.{FillRoom, Filled, Cleared};
+ghost use Rattle.blank.specs.Blank.{FillRoom, BackgroundFilled, Cleared};
 
 // The first n bytes become v.
 fn fill_byte(dst: &mut [u8], n: usize, v: u8)
@@ -65,7 +65,7 @@ fn repeat(dst: &mut [u8], b: usize, end: usize)
 // The first n pixels of b bytes become the background pixel.
 pub fn fill(target: &mut [u8], n: usize, b: usize, bg: &[u8])
     requires { ⌜ FillRoom (now target) n b (now bg) ⌝ }
-    ensures { λ _. ⌜ Filled (now (target .entry)) n b (now (bg .entry)) (now (target .exit)) ⌝ }
+    ensures { λ _. ⌜ BackgroundFilled (now (target .entry)) n b (now (bg .entry)) (now (target .exit)) ⌝ }
 {
     let end = n * b;
     if uniform(bg) {

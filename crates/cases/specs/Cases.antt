@@ -117,14 +117,14 @@ fileTwo n one m two =
 
 -- ---- questions, and what the rules answer
 
--- a question with no start, background 7, for a Gray8 window of one row, by that masks choice
+-- a question with no start, background 1, for a Gray8 window of one row, by that masks choice
 unfoldable pub rowAt : Masks → List ℕ → ℤ → ℕ → Asked
 rowAt masks file left width = record {
   scan = scanOf file;
   starts = [];
   anyScene = false;
-  frame = record { «pixel_type» = 0; left = left; top = pos 0; width = width; height = 1; masks = masks };
-  background = 7 ∷ [];
+  request = record { «pixel_type» = 0; left = left; top = pos 0; width = width; height = 1; masks = masks };
+  background = 1 ∷ [];
 }
 
 pub data Question : Type 0 where
@@ -180,12 +180,12 @@ cases =
     case (valid (mask1 10 2 (0x80 ∷ 0 ∷ [])) 0 0) (flag true) ∷
     case (valid (mask1 10 2 (0x80 ∷ 0 ∷ [])) 1 0) (flag false) ∷
     -- the same mask on a tile 5 wide, masks on: its first pixel alone
-    case (plane plain On (fileMasked (mask1 10 2 (0x80 ∷ 0 ∷ []))) (pos 0) 5) (painted (10 ∷ 7 ∷ 7 ∷ 7 ∷ 7 ∷ []) (0x80 ∷ [])) ∷
-    case (plane quick On (fileMasked (mask1 10 2 (0x80 ∷ 0 ∷ []))) (pos 0) 5) (painted (10 ∷ 7 ∷ 7 ∷ 7 ∷ 7 ∷ []) (0x80 ∷ [])) ∷
+    case (plane plain On (fileMasked (mask1 10 2 (0x80 ∷ 0 ∷ []))) (pos 0) 5) (painted (10 ∷ 1 ∷ 1 ∷ 1 ∷ 1 ∷ []) (0x80 ∷ [])) ∷
+    case (plane quick On (fileMasked (mask1 10 2 (0x80 ∷ 0 ∷ []))) (pos 0) 5) (painted (10 ∷ 1 ∷ 1 ∷ 1 ∷ 1 ∷ []) (0x80 ∷ [])) ∷
     -- P8 mask width 3 on a tile 5 wide: x = 3 invalid, though its bit is one; masks on, pixel 3 is background and its map bit 0
     case (valid (mask1 3 1 (0xff ∷ [])) 3 0) (flag false) ∷
-    case (plane plain On (fileMasked (mask1 3 1 (0xff ∷ []))) (pos 0) 5) (painted (10 ∷ 11 ∷ 12 ∷ 7 ∷ 7 ∷ []) (0xe0 ∷ [])) ∷
-    case (plane quick On (fileMasked (mask1 3 1 (0xff ∷ []))) (pos 0) 5) (painted (10 ∷ 11 ∷ 12 ∷ 7 ∷ 7 ∷ []) (0xe0 ∷ [])) ∷
+    case (plane plain On (fileMasked (mask1 3 1 (0xff ∷ []))) (pos 0) 5) (painted (10 ∷ 11 ∷ 12 ∷ 1 ∷ 1 ∷ []) (0xe0 ∷ [])) ∷
+    case (plane quick On (fileMasked (mask1 3 1 (0xff ∷ []))) (pos 0) 5) (painted (10 ∷ 11 ∷ 12 ∷ 1 ∷ 1 ∷ []) (0xe0 ∷ [])) ∷
     -- the same tile, masks off: all its pixels
     case (plane quick Off (fileMasked (mask1 3 1 (0xff ∷ []))) (pos 0) 5) (painted (10 ∷ 11 ∷ 12 ∷ 13 ∷ 14 ∷ []) (0xf8 ∷ [])) ∷
     -- P9 M −1 lies over no M, though the tile without M is the later entry

@@ -25,12 +25,11 @@ use Rattle.tiles.specs.FileTile.{rectangle, meets, tilesBelow}
 use Rattle.selection.specs.Select.{selects, startsThere}
 use Rattle.selection.specs.Table.{Selection}
 use Rattle.selection.proofs.Chosen.{not-chosen, is-chosen}
-use Rattle.question.specs.Question as Question
-use Rattle.question.specs.Question.{masksOn, typeBad, askRows, agreeRows}
+use Rattle.question.specs.Question.{masksOn, typeBad, askRows, agreeRows, requestWindow, windowBad}
 use Rattle.format.proofs.Firsts.{passed}
 use Rattle.question.specs.Call.{Asked, callVerdict, askedWindow, askedBytes, selected, painted, answer, targetAfter, mapAfter, Answered}
 use Rattle.question.specs.Call as Call
-use Rattle.question.specs.declared.Frame.{Frame}
+use Rattle.question.specs.declared.WindowRequest.{WindowRequest}
 use Rattle.question.specs.declared.Composed.the-variants as Ans
 use Rattle.question.proofs.Accepts.{call-ok}
 use Rattle.question.proofs.Asking.{window-ok, pixel-ok}
@@ -82,18 +81,18 @@ unfolding rowsBelow
 rows-ext zero f g h = refl
 rows-ext (suc n) f g h = rw (rows-ext n f g (λ k l. h k (omega arith)), h n (omega arith))
 
-pub agreed : (sc : Scan) (starts : List ℤ) (anyScene : Bool) (table : List ℕ) (n : ℕ) (w : Rect) (f : Frame) (v : Verdict) → Selects sc starts anyScene table → n ≡ tileCount (sc .file)
-    → windowOf w ≡ Question.windowOf f → v ≡ first (rowsBelow n (agreeRow (sc .file) table w (f .«pixel_type»))) → v ≡ first (agreeRows (sc .file) (λ k. selects (sc .file) starts anyScene (entryPlace (sc .file) k)) f)
+pub agreed : (sc : Scan) (starts : List ℤ) (anyScene : Bool) (table : List ℕ) (n : ℕ) (w : Rect) (f : WindowRequest) (v : Verdict) → Selects sc starts anyScene table → n ≡ tileCount (sc .file)
+    → windowOf w ≡ requestWindow f → v ≡ first (rowsBelow n (agreeRow (sc .file) table w (f .«pixel_type»))) → v ≡ first (agreeRows (sc .file) (λ k. selects (sc .file) starts anyScene (entryPlace (sc .file) k)) f)
 unfolding agreeRows
 agreed sc starts anyScene table n w f v s e i j =
     j ∙ ap first (ap (λ (m : ℕ). rowsBelow m (agreeRow (sc .file) table w (f .«pixel_type»))) e ∙ rows-ext (tileCount (sc .file)) _ _ (λ k h. rw (i, s .as-asked k h)))
 
 -- ---- the window as the code has it
 
-pub sides-fit : (f : Frame) → Question.windowBad (Question.windowOf f) ≡ false → (f .width ≤ 65536) × (f .height ≤ 65536)
-sides-fit f h = let p = window-ok (Question.windowOf f) h in (p .narrow, p .low)
+pub sides-fit : (f : WindowRequest) → windowBad (requestWindow f) ≡ false → (f .width ≤ 65536) × (f .height ≤ 65536)
+sides-fit f h = let p = window-ok (requestWindow f) h in (p .narrow, p .low)
 
-pub edges-fit : (w : Rect) (v : Window) → windowOf w ≡ v → Question.windowBad v ≡ false → Edges w
+pub edges-fit : (w : Rect) (v : Window) → windowOf w ≡ v → windowBad v ≡ false → Edges w
 edges-fit w v e h =
     let p = window-ok (windowOf w) (rw e h) in
     record { right = omega (arith, p .right); bottom = omega (arith, p .bottom) }
@@ -107,7 +106,7 @@ same-type sc w t e h k = rw h at k
 
 module _ (a : Asked) (t m table : List ℕ) (w : Rect) (e : windowOf w ≡ askedWindow a) (s : Selects (a .scan) (a .starts) (a .anyScene) table)
     (v : callVerdict a (length t) (length m) ≡ Accepted) where
-  pub plane-room : PlaneRoom t m (a .scan) table (a .background) w (a .frame .«pixel_type»)
+  pub plane-room : PlaneRoom t m (a .scan) table (a .background) w (a .request .«pixel_type»)
   plane-room =
       let ok = call-ok a (length t) (length m) v in
       let p = window-ok (askedWindow a) (ok .window) in
@@ -116,21 +115,21 @@ module _ (a : Asked) (t m table : List ℕ) (w : Rect) (e : windowOf w ≡ asked
         edges = edges-fit w (askedWindow a) e (ok .window);
         room = rw e (room a t m v);
         small = rw e (mul-le-mul (p .low) (p .narrow));
-        ground = pixel-ok (a .frame .«pixel_type») (a .background) (ok .pixel) .1;
+        ground = pixel-ok (a .request .«pixel_type») (a .background) (ok .pixel) .1;
         typed = λ k h c. typed k (chosenIn table k) (meets (rectangle (a .scan .file) (entryPlace (a .scan .file) k)) (windowOf w)) refl refl c (ok .agree k h) (s .as-asked k h);
       }
     where
       typed : (k : ℕ) (b c : Bool) → chosenIn table k ≡ b → meets (rectangle (a .scan .file) (entryPlace (a .scan .file) k)) (windowOf w) ≡ c → cond b c false ≡ true
-          → cond (Call.chosen a k) (typeBad (a .scan .file) (askedWindow a) (a .frame .«pixel_type») (entryPlace (a .scan .file) k)) false ≡ false
+          → cond (Call.chosen a k) (typeBad (a .scan .file) (askedWindow a) (a .request .«pixel_type») (entryPlace (a .scan .file) k)) false ≡ false
           → chosenIn table k ≡ Call.chosen a k
-          → pixelType (a .scan .file) (entryPlace (a .scan .file) k) ≡ a .frame .«pixel_type»
-      typed k true true i j x y z = eqb-true _ _ (not-false _ (same-type (a .scan) (askedWindow a) (a .frame .«pixel_type») (entryPlace (a .scan .file) k) (rw (← e) j) (rw (sym z ∙ i) at y)))
+          → pixelType (a .scan .file) (entryPlace (a .scan .file) k) ≡ a .request .«pixel_type»
+      typed k true true i j x y z = eqb-true _ _ (not-false _ (same-type (a .scan) (askedWindow a) (a .request .«pixel_type») (entryPlace (a .scan .file) k) (rw (← e) j) (rw (sym z ∙ i) at y)))
       typed k true false i j x y z = absurd (true≢false (sym x))
       typed k false c i j x y z = absurd (true≢false (sym x))
 
   -- the run that was painted is the call's
-  module _ (k : Kind) (on : Bool) (o : on ≡ masksOn (a .frame .masks)) (t′ m′ : List ℕ) (c : Counts)
-      (d : PlaneDone k t m (a .scan) table (a .background) w (a .frame .«pixel_type») on t′ m′ c) where
+  module _ (k : Kind) (on : Bool) (o : on ≡ masksOn (a .request .masks)) (t′ m′ : List ℕ) (c : Counts)
+      (d : PlaneDone k t m (a .scan) table (a .background) w (a .request .«pixel_type») on t′ m′ c) where
     whole-call : _≡_ {A = Painting} (record { target = t′; map = m′; stored = c .stored }) (painted k a t m)
     unfolding selected
     whole-call =
@@ -138,7 +137,7 @@ module _ (a : Asked) (t m table : List ℕ) (w : Rect) (e : windowOf w ≡ asked
         ∙ ap (λ (v : Window). compose k v (askedBytes a) (a .background) (tilesBelow (tileCount (a .scan .file)) (a .scan) on (chosenIn table)) t m) e
         ∙ ap (λ (b : Bool). compose k (askedWindow a) (askedBytes a) (a .background) (tilesBelow (tileCount (a .scan .file)) (a .scan) b (chosenIn table)) t m) o
         ∙ ap (λ l. compose k (askedWindow a) (askedBytes a) (a .background) l t m)
-        (tiles-ext (tileCount (a .scan .file)) (a .scan) (masksOn (a .frame .masks)) (chosenIn table) (Call.chosen a) (s .as-asked))
+        (tiles-ext (tileCount (a .scan .file)) (a .scan) (masksOn (a .request .masks)) (chosenIn table) (Call.chosen a) (s .as-asked))
 
     pub done : Answered k a t m t′ m′ (Ans.Done (c .covered) (c .stored))
     unfolding answer targetAfter mapAfter
@@ -160,12 +159,12 @@ refused k a t m n p v = record { answer-is = rw v; number-is = rw v; place-is = 
 
 -- ---- between the stages
 
-pub asked-window : (f : Frame) (background : List ℕ) (target map : ℕ) → first (askRows f background target map) ≡ Accepted → Question.windowBad (Question.windowOf f) ≡ false
+pub asked-window : (f : WindowRequest) (background : List ℕ) (target map : ℕ) → first (askRows f background target map) ≡ Accepted → windowBad (requestWindow f) ≡ false
 unfolding askRows
 asked-window f background target map h = passed (askRows f background target map) h 0
 
-pub call-sides : (a : Asked) (target map : ℕ) → callVerdict a target map ≡ Accepted → (a .frame .width ≤ 65536) × (a .frame .height ≤ 65536)
-call-sides a target map v = sides-fit (a .frame) (call-ok a target map v .window)
+pub call-sides : (a : Asked) (target map : ℕ) → callVerdict a target map ≡ Accepted → (a .request .width ≤ 65536) × (a .request .height ≤ 65536)
+call-sides a target map v = sides-fit (a .request) (call-ok a target map v .window)
 
 pub not-both : {A : Type 0} (n p : ℕ) → Refused n p ≡ Accepted → A
 not-both n p e = let z : _≡_ {A = ℕ} 0 1 = cc in absurd (omega arith)

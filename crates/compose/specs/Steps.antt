@@ -25,7 +25,7 @@ use Rattle.tiles.specs.FileTile.{rankOf, rectangle, meets, fileTile, tilesBelow
 use Rattle.selection.specs.Select.{selects}
 use Rattle.question.specs.Question.{askRows, agreeRows}
 use Rattle.question.specs.Call.{Asked, callVerdict}
-use Rattle.question.specs.declared.Frame.{Frame}
+use Rattle.question.specs.declared.WindowRequest.{WindowRequest}
 use Rattle.compose.specs.declared.Counts.{Counts}
 
 -- ---- a selection: a table that has for each entry its place where it is chosen, else 0
@@ -125,8 +125,8 @@ pub record PlaneDone (k : Kind) (t m : List ℕ) (sc : Scan) (table background :
 
 -- ---- the whole of refusing: where it accepts, the table holds what the question's starts select
 
-abbrev pub asked : List ℕ → List ℤ → Bool → Frame → List ℕ → Asked
-asked bs starts anyScene f background = record { scan = scanOf bs; starts = starts; anyScene = anyScene; frame = f; background = background }
+abbrev pub asked : List ℕ → List ℤ → Bool → WindowRequest → List ℕ → Asked
+asked bs starts anyScene f background = record { scan = scanOf bs; starts = starts; anyScene = anyScene; request = f; background = background }
 
 -- the table chooses as the starts do
 pub record Selects (sc : Scan) (starts : List ℤ) (anyScene : Bool) (table : List ℕ) : Type 0 where
@@ -134,14 +134,14 @@ pub record Selects (sc : Scan) (starts : List ℤ) (anyScene : Bool) (table : Li
   pub as-asked : (k : ℕ) → k < tileCount (sc .file) → chosenIn table k ≡ selects (sc .file) starts anyScene (entryPlace (sc .file) k)
 
 -- the rows of 23, of 20 to 23, of all
-pub record Agreed (sc : Scan) (starts : List ℤ) (anyScene : Bool) (f : Frame) (table : List ℕ) (r : Verdict) : Type 0 where
+pub record AgreeAnswered (sc : Scan) (starts : List ℤ) (anyScene : Bool) (f : WindowRequest) (table : List ℕ) (r : Verdict) : Type 0 where
   pub verdict-is : r ≡ first (agreeRows (sc .file) (λ k. selects (sc .file) starts anyScene (entryPlace (sc .file) k)) f)
   pub selects-so : Selects sc starts anyScene table
 
-pub record Asked23 (sc : Scan) (starts : List ℤ) (anyScene : Bool) (f : Frame) (background : List ℕ) (target map : ℕ) (table : List ℕ) (r : Verdict) : Type 0 where
+pub record AskAnswered (sc : Scan) (starts : List ℤ) (anyScene : Bool) (f : WindowRequest) (background : List ℕ) (target map : ℕ) (table : List ℕ) (r : Verdict) : Type 0 where
   pub verdict-is : r ≡ first (askRows f background target map ++ agreeRows (sc .file) (λ k. selects (sc .file) starts anyScene (entryPlace (sc .file) k)) f)
   pub selects-so : r ≡ Accepted → Selects sc starts anyScene table
 
-pub record Examined (a : Asked) (target map : ℕ) (table : List ℕ) (r : Verdict) : Type 0 where
+pub record ExamineAnswered (a : Asked) (target map : ℕ) (table : List ℕ) (r : Verdict) : Type 0 where
   pub verdict-is : r ≡ callVerdict a target map
   pub selects-so : r ≡ Accepted → Selects (a .scan) (a .starts) (a .anyScene) table

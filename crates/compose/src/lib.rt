@@ -1,7 +1,7 @@
 // Composes one plane of a file: select, ask, agree, paint. The plain composer paints bottom tile first, the quick one top tile first.
 use format::Verdict;
 use question::Composed;
-use question::Frame;
+use question::WindowRequest;
 use turns::Rect;
 ghost use mathlib.Core.Path.{_≡_};
 ghost use mathlib.Core.List.{[], _∷_, map};
@@ -20,12 +20,11 @@ ghost use Rattle.format.specs.Rules.{verdict};
 ghost use Rattle.format.specs.declared.Verdict.the-variants.{Accepted};
 ghost use Rattle.turns.specs.TileOf.{windowOf};
 ghost use Rattle.turns.specs.Turned.{kindOf};
-ghost use Rattle.question.specs.Question.{typeBad, windowBad};
-ghost use Rattle.question.specs.Question as Question;
+ghost use Rattle.question.specs.Question.{typeBad, windowBad, requestWindow};
 ghost use Rattle.question.specs.Call.{Answered};
 ghost use Rattle.subblocks.specs.Judged.{Listed};
 ghost use Rattle.tiles.specs.Painted.{PaintRoom, Painted};
-ghost use Rattle.compose.specs.Steps.{chosenIn, Chosen, Edges, takesTurn, keysBelow, Gathered, AddRoom, Added, tileOfKey, RunRoom, RunDone, PlaneRoom, Begun, PlaneDone, asked, Agreed, Asked23, Examined};
+ghost use Rattle.compose.specs.Steps.{chosenIn, Chosen, Edges, takesTurn, keysBelow, Gathered, AddRoom, Added, tileOfKey, RunRoom, RunDone, PlaneRoom, Begun, PlaneDone, asked, AgreeAnswered, AskAnswered, ExamineAnswered};
 
 // The covered count and the store count of a plane that was painted.
 pub struct Counts {
@@ -229,12 +228,12 @@ fn examine_tiles(
     s: &[u8],
     starts: &[i32],
     any_scene: bool,
-    f: Frame,
+    f: WindowRequest,
     table: &mut [u64; 4096],
 ) -> Verdict
     requires { ⌜ (verdict (scanOf (now s)) ≡ Accepted) × (length (now table) ≡ 4096) ⌝ }
-    requires { ⌜ windowBad (Question.windowOf f) ≡ false ⌝ }
-    ensures { λ r. ⌜ Agreed (scanOf (now (s .entry))) (now (starts .entry)) «any_scene» f (now (table .exit)) r ⌝ }
+    requires { ⌜ windowBad (requestWindow f) ≡ false ⌝ }
+    ensures { λ r. ⌜ AgreeAnswered (scanOf (now (s .entry))) (now (starts .entry)) «any_scene» f (now (table .exit)) r ⌝ }
 {
     let n = selection::select(s, starts, any_scene, table);
     let w = ask::window_of(f);
@@ -247,14 +246,14 @@ fn examine_question(
     s: &[u8],
     starts: &[i32],
     any_scene: bool,
-    f: Frame,
+    f: WindowRequest,
     background: &[u8],
     target: u64,
     map: u64,
     table: &mut [u64; 4096],
 ) -> Verdict
     requires { ⌜ (verdict (scanOf (now s)) ≡ Accepted) × (length (now table) ≡ 4096) ⌝ }
-    ensures { λ r. ⌜ Asked23 (scanOf (now (s .entry))) (now (starts .entry)) «any_scene» f (now (background .entry)) target map (now (table .exit)) r ⌝ }
+    ensures { λ r. ⌜ AskAnswered (scanOf (now (s .entry))) (now (starts .entry)) «any_scene» f (now (background .entry)) target map (now (table .exit)) r ⌝ }
 {
     let v = ask::ask(f, background, target, map);
     match v {
@@ -268,14 +267,14 @@ fn examine(
     s: &[u8],
     starts: &[i32],
     any_scene: bool,
-    f: Frame,
+    f: WindowRequest,
     background: &[u8],
     target: u64,
     map: u64,
     table: &mut [u64; 4096],
 ) -> Verdict
     requires { ⌜ length (now table) ≡ 4096 ⌝ }
-    ensures { λ r. ⌜ Examined (asked (now (s .entry)) (now (starts .entry)) «any_scene» f (now (background .entry))) target map (now (table .exit)) r ⌝ }
+    ensures { λ r. ⌜ ExamineAnswered (asked (now (s .entry)) (now (starts .entry)) «any_scene» f (now (background .entry))) target map (now (table .exit)) r ⌝ }
 {
     let v = judge::judge(s);
     match v {
@@ -298,7 +297,7 @@ fn compose_by(
     s: &[u8],
     starts: &[i32],
     any_scene: bool,
-    f: Frame,
+    f: WindowRequest,
     background: &[u8],
     target: &mut [u8],
     map: &mut [u8],
@@ -338,7 +337,7 @@ pub fn compose_plain(
     s: &[u8],
     starts: &[i32],
     any_scene: bool,
-    f: Frame,
+    f: WindowRequest,
     background: &[u8],
     target: &mut [u8],
     map: &mut [u8],
@@ -353,7 +352,7 @@ pub fn compose_quick(
     s: &[u8],
     starts: &[i32],
     any_scene: bool,
-    f: Frame,
+    f: WindowRequest,
     background: &[u8],
     target: &mut [u8],
     map: &mut [u8],

@@ -33,7 +33,7 @@ use Rattle.listing.specs.declared.SummaryAnswer.{SummaryAnswer}
 use Rattle.plane.specs.Turns.{Kind}
 use Rattle.question.specs.Question.{askRows, agreeRows}
 use Rattle.question.specs.Call.{Asked, chosen, callVerdict, answerIf, answer, numberIn}
-use Rattle.question.specs.declared.Frame.{Frame}
+use Rattle.question.specs.declared.WindowRequest.{WindowRequest}
 use Rattle.question.specs.declared.Composed.{Composed}
 use Rattle.format.proofs.Below.{and-both}
 use Rattle.format.proofs.Firsts.{first-append}
@@ -182,11 +182,11 @@ tile-in-low a e h = rw (← a .number-is, e) at h
 
 -- ---- what a composer is asked
 
-ask-low : (f : Frame) (background : List ℕ) (target map : ℕ) → Low (askRows f background target map)
+ask-low : (f : WindowRequest) (background : List ℕ) (target map : ℕ) → Low (askRows f background target map)
 unfolding askRows lows
 ask-low f background target map = low-all (askRows f background target map) refl
 
-agree-low : (bs : List ℕ) (chosen : ℕ → Bool) (f : Frame) → Low (agreeRows bs chosen f)
+agree-low : (bs : List ℕ) (chosen : ℕ → Bool) (f : WindowRequest) → Low (agreeRows bs chosen f)
 unfolding agreeRows lows
 agree-low bs chosen f = low-below (tileCount bs) _ (λ k. low-all _ refl)
 
@@ -194,8 +194,8 @@ call-low : (a : Asked) (target map : ℕ) → numberOf (callVerdict a target map
 unfolding callVerdict
 call-low a target map =
     low-append (checks (a .scan)) _ (checks-low (a .scan .file))
-    (low-append (askRows (a .frame) (a .background) target map) _ (ask-low (a .frame) (a .background) target map)
-    (agree-low (a .scan .file) (chosen a) (a .frame)))
+    (low-append (askRows (a .request) (a .background) target map) _ (ask-low (a .request) (a .background) target map)
+    (agree-low (a .scan .file) (chosen a) (a .request)))
     .low
 
 answer-if-low : (v : Verdict) (covered stored : ℕ) → numberOf v ≤ 30 → numberIn (answerIf v covered stored) ≤ 30

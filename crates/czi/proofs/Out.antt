@@ -28,11 +28,11 @@ use Rattle.listing.specs.declared.Summary.{Summary}
 use Rattle.listing.specs.declared.SummaryAnswer.{SummaryAnswer}
 use Rattle.plane.specs.Turns.{Kind}
 use Rattle.question.specs.Call.{Answered, numberIn, placeIn, coveredIn, storedIn}
-use Rattle.question.specs.declared.Frame.{Frame}
+use Rattle.question.specs.declared.WindowRequest.{WindowRequest}
 use Rattle.question.specs.declared.Composed.{Composed}
 use Rattle.compose.specs.Steps.{asked}
 use Rattle.entries.proofs.ReadBack.{read-back}
-use Rattle.czi.specs.Plane.{frameOf, PlaneOut}
+use Rattle.czi.specs.Plane.{requestOf, PlaneOut}
 use Rattle.czi.specs.Numbers.{tileNumbers, tileStarts, boxNumbers}
 use Rattle.czi.specs.Out.{VerdictOut, SpanOut, TileOut, DimensionOut, SummaryOut, TextOut}
 use Rattle.czi.specs.declared.figures.BoxNumbers.{BoxNumbers}
@@ -110,12 +110,12 @@ text-out t l c e =
 -- ---- a plane
 
 -- left and top are handed on as their bits
-pub frame-back : (type : ℕ) (left top : ℤ) (width height masks : ℕ) → mag left < 2 ^ 31 → mag top < 2 ^ 31
-    → frameOf type (toZ w32 (ofZ w32 left)) (toZ w32 (ofZ w32 top)) width height masks ≡ frameOf type left top width height masks
-frame-back type left top width height masks l t = rw (read-back left l, read-back top t)
+pub request-back : (type : ℕ) (left top : ℤ) (width height masks : ℕ) → mag left < 2 ^ 31 → mag top < 2 ^ 31
+    → requestOf type (toZ w32 (ofZ w32 left)) (toZ w32 (ofZ w32 top)) width height masks ≡ requestOf type left top width height masks
+request-back type left top width height masks l t = rw (read-back left l, read-back top t)
 
--- what a composer answered about the frame f, said of g
-pub plane-out : (k : Kind) (bs : List ℕ) (starts : List ℤ) (any : Bool) (f g : Frame) (background t m t′ m′ : List ℕ) (r : Composed) (number place covered stored : ℕ)
+-- what a composer answered about the request f, said of g
+pub plane-out : (k : Kind) (bs : List ℕ) (starts : List ℤ) (any : Bool) (f g : WindowRequest) (background t m t′ m′ : List ℕ) (r : Composed) (number place covered stored : ℕ)
     → Answered k (asked bs starts any f background) t m t′ m′ r → f ≡ g
     → number ≡ numberIn r → place ≡ placeIn r → covered ≡ coveredIn r → stored ≡ storedIn r
     → PlaneOut k (asked bs starts any g background) t m t′ m′ number place covered stored

@@ -4,20 +4,20 @@ use mathlib.Core.List.{List, [], _∷_}
 use lib.IntN.{ℤ, pos}
 use Rattle.format.specs.declared.TileMask.{TileMask}
 use Rattle.format.specs.declared.TileMask.the-variants.{Unmasked, Masked}
-use Rattle.format.specs.declared.Layer.{Layer}
-use Rattle.format.specs.declared.Layer.the-variants.{NoM, M}
+use Rattle.format.specs.declared.MIndex.{MIndex}
+use Rattle.format.specs.declared.MIndex.the-variants.{NoM, M}
 use Rattle.format.specs.declared.Tile.{Tile}
 use Rattle.listing.specs.declared.Bounds.{Bounds}
 use Rattle.listing.specs.declared.Bounds.the-variants.{Nothing, Box}
-use Rattle.czi.specs.declared.records.LayerNumbers.{LayerNumbers}
+use Rattle.czi.specs.declared.records.MIndexNumbers.{MIndexNumbers}
 use Rattle.czi.specs.declared.records.MaskNumbers.{MaskNumbers}
 use Rattle.czi.specs.declared.figures.BoxNumbers.{BoxNumbers}
 
 -- ---- the tile record
 
-abbrev pub layerNumbers : Layer → LayerNumbers
-layerNumbers (M z) = record { some = 1; start = z }
-layerNumbers NoM = record { some = 0; start = pos 0 }
+abbrev pub mIndexNumbers : MIndex → MIndexNumbers
+mIndexNumbers (M z) = record { some = 1; start = z }
+mIndexNumbers NoM = record { some = 0; start = pos 0 }
 
 abbrev pub maskNumbers : TileMask → MaskNumbers
 maskNumbers (Masked p s) = record { some = 1; place = p; width = s .width; height = s .height; stride = s .stride }
@@ -36,7 +36,7 @@ tileNumbers t =
     t .x .stored ∷
     t .y .size ∷
     t .y .stored ∷
-    layerNumbers (t .m) .some ∷
+    mIndexNumbers (t .m) .some ∷
     t .metadata .start ∷
     t .metadata .length ∷
     t .pixels .start ∷
@@ -52,7 +52,7 @@ tileNumbers t =
 
 -- its signed numbers: the Starts of X, Y and M
 unfoldable pub tileStarts : Tile → List ℤ
-tileStarts t = t .x .start ∷ t .y .start ∷ layerNumbers (t .m) .start ∷ []
+tileStarts t = t .x .start ∷ t .y .start ∷ mIndexNumbers (t .m) .start ∷ []
 
 -- ---- the box
 

@@ -9,21 +9,21 @@ use Rattle.plane.specs.Turns.{Kind}
 use Rattle.question.specs.Call.{Asked, answer, targetAfter, mapAfter, numberIn, placeIn, coveredIn, storedIn}
 use Rattle.question.specs.declared.Masks.{Masks}
 use Rattle.question.specs.declared.Masks.the-variants.{NotChosen, On, Off}
-use Rattle.question.specs.declared.Frame.{Frame}
+use Rattle.question.specs.declared.WindowRequest.{WindowRequest}
 use Rattle.compose.specs.Steps.{asked}
 
 -- the masks choice of a number: 1 on, 2 off, any other not chosen
 unfoldable pub choiceOf : ℕ → Masks
 choiceOf n = cond (eqb n 1) On (cond (eqb n 2) Off NotChosen)
 
-abbrev pub frameOf : ℕ → ℤ → ℤ → ℕ → ℕ → ℕ → Frame
-frameOf type left top width height masks =
+abbrev pub requestOf : ℕ → ℤ → ℤ → ℕ → ℕ → ℕ → WindowRequest
+requestOf type left top width height masks =
     record { «pixel_type» = type; left = left; top = top; width = width; height = height; masks = choiceOf masks }
 
 -- what a call is asked, the lent target and map aside: any S counts unless anyScene is 0
 abbrev pub planeAsked : List ℕ → List ℤ → ℕ → ℕ → List ℕ → ℤ → ℤ → ℕ → ℕ → ℕ → Asked
 planeAsked file starts anyScene type background left top width height masks =
-    asked file starts (not (eqb anyScene 0)) (frameOf type left top width height masks) background
+    asked file starts (not (eqb anyScene 0)) (requestOf type left top width height masks) background
 
 -- a plane by the composer k, from the lent target t and map m to t′ and m′
 pub record PlaneOut (k : Kind) (a : Asked) (t m t′ m′ : List ℕ) (number place covered stored : ℕ) : Type 0 where

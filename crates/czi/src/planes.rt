@@ -1,12 +1,12 @@
 // The composers, asked by numbers.
 use question::Composed;
-use question::Frame;
 use question::Masks;
+use question::WindowRequest;
 ghost use mathlib.Core.Path.{_≡_};
 ghost use Prim.Native.Nat.{_≤_};
 ghost use Rattle.plane.specs.Turns.{plain, quick};
 ghost use Rattle.question.specs.Call.{numberIn, placeIn, coveredIn, storedIn};
-ghost use Rattle.czi.specs.Plane.{choiceOf, frameOf, planeAsked, PlaneOut};
+ghost use Rattle.czi.specs.Plane.{choiceOf, requestOf, planeAsked, PlaneOut};
 
 // The masks choice of a number: 1 on, 2 off, any other not chosen.
 fn choice_of(masks: u32) -> Masks
@@ -22,11 +22,18 @@ fn choice_of(masks: u32) -> Masks
 }
 
 // The question but for its starts and the background.
-fn frame_of(pixel_type: u32, left: i32, top: i32, width: u32, height: u32, masks: u32) -> Frame
-    ensures { λ r. ⌜ r ≡ frameOf «pixel_type» left top width height masks ⌝ }
+fn request_of(
+    pixel_type: u32,
+    left: i32,
+    top: i32,
+    width: u32,
+    height: u32,
+    masks: u32,
+) -> WindowRequest
+    ensures { λ r. ⌜ r ≡ requestOf «pixel_type» left top width height masks ⌝ }
 {
     let choice = choice_of(masks);
-    Frame {
+    WindowRequest {
         pixel_type: pixel_type as u64,
         left,
         top,
@@ -110,7 +117,7 @@ pub extern "C" fn czi_compose_plain(
 ) -> u32
     ensures { λ r. ⌜ PlaneOut plain (planeAsked (now (file .entry)) (now (starts .entry)) «any_scene» «pixel_type» (now (background .entry)) left top width height masks) (now (target .entry)) (now (map .entry)) (now (target .exit)) (now (map .exit)) r (now (place .exit)) (now (covered .exit)) (now (stored .exit)) ⌝ }
 {
-    let f = frame_of(pixel_type, left, top, width, height, masks);
+    let f = request_of(pixel_type, left, top, width, height, masks);
     let any = any_scene != 0;
     let c = compose::compose_plain(file, starts, any, f, background, target, map);
     *place = composed_place(c);
@@ -140,7 +147,7 @@ pub extern "C" fn czi_compose_quick(
 ) -> u32
     ensures { λ r. ⌜ PlaneOut quick (planeAsked (now (file .entry)) (now (starts .entry)) «any_scene» «pixel_type» (now (background .entry)) left top width height masks) (now (target .entry)) (now (map .entry)) (now (target .exit)) (now (map .exit)) r (now (place .exit)) (now (covered .exit)) (now (stored .exit)) ⌝ }
 {
-    let f = frame_of(pixel_type, left, top, width, height, masks);
+    let f = request_of(pixel_type, left, top, width, height, masks);
     let any = any_scene != 0;
     let c = compose::compose_quick(file, starts, any, f, background, target, map);
     *place = composed_place(c);

@@ -3,7 +3,7 @@ use crate::verdict::number_of;
 use crate::verdict::place_of;
 use format::Dimension;
 use format::DimensionAnswer;
-use format::Layer;
+use format::MIndex;
 use format::Tile;
 use format::TileAnswer;
 use format::TileMask;
@@ -13,11 +13,11 @@ ghost use Rattle.format.specs.Scan.{scanOf};
 ghost use Rattle.format.specs.Rules.{tileVerdict};
 ghost use Rattle.format.specs.Records.{dimensionVerdict, tileRecord, dimensionRecord};
 ghost use Rattle.format.specs.Answers.{dimensionVerdictIn, dimensionIn};
-ghost use Rattle.czi.specs.Numbers.{layerNumbers, maskNumbers, tileNumbers, tileStarts};
+ghost use Rattle.czi.specs.Numbers.{mIndexNumbers, maskNumbers, tileNumbers, tileStarts};
 ghost use Rattle.czi.specs.Out.{TileOut, DimensionOut};
 
 // Whether a tile has an M, as 1 or 0, and where it starts, 0 where there is none.
-pub struct LayerNumbers {
+pub struct MIndexNumbers {
     pub some: u64,
     pub start: i32,
 }
@@ -34,12 +34,12 @@ pub struct MaskNumbers {
 // ---- the tile record
 
 // A tile's M as numbers.
-fn layer_numbers(m: Layer) -> LayerNumbers
-    ensures { λ r. ⌜ r ≡ layerNumbers m ⌝ }
+fn m_index_numbers(m: MIndex) -> MIndexNumbers
+    ensures { λ r. ⌜ r ≡ mIndexNumbers m ⌝ }
 {
     match m {
-        Layer::M(start) => LayerNumbers { some: 1, start },
-        Layer::NoM => LayerNumbers { some: 0, start: 0 },
+        MIndex::M(start) => MIndexNumbers { some: 1, start },
+        MIndex::NoM => MIndexNumbers { some: 0, start: 0 },
     }
 }
 
@@ -75,7 +75,7 @@ fn tile_numbers(t: Tile) -> [u64; 22]
     let pixels = t.pixels;
     let attachment = t.attachment;
     let m = t.m;
-    let layer = layer_numbers(m);
+    let index = m_index_numbers(m);
     let k = t.mask;
     let mask = mask_numbers(k);
     [
@@ -89,7 +89,7 @@ fn tile_numbers(t: Tile) -> [u64; 22]
         x.stored,
         y.size,
         y.stored,
-        layer.some,
+        index.some,
         metadata.start,
         metadata.length,
         pixels.start,
@@ -111,8 +111,8 @@ fn tile_starts(t: Tile) -> [i32; 3]
     let x = t.x;
     let y = t.y;
     let m = t.m;
-    let layer = layer_numbers(m);
-    [x.start, y.start, layer.start]
+    let index = m_index_numbers(m);
+    [x.start, y.start, index.start]
 }
 
 // The tile record. A refused call leaves numbers and starts as they were.

@@ -21,8 +21,7 @@ use Rattle.format.proofs.Firsts.{first-pass, first-stop, first-both, passed, ro
 use Rattle.format.proofs.Below.{none}
 use Rattle.format.proofs.SegmentLaws.{walked-room, walked-few}
 use Rattle.entries.proofs.EntryLaws.{head-ok}
-use Rattle.segments.specs.Walk as Walk
-use Rattle.segments.specs.Walk.{indexAs}
+use Rattle.segments.specs.Walk.{WalkTable, indexAs}
 use Rattle.segments.proofs.Naming.{count-is, named, below-named}
 use Rattle.subblocks.specs.Judged.{Placed, Filled}
 use Rattle.directory.specs.Marks.{Marked, BlockKnown}
@@ -63,7 +62,7 @@ placed bs e few entry h = record {
 
 -- k is the index of the sub-block that it names, at q: what judging the sub-block rests on
 module _ (bs : List ℕ) (e k q : ℕ) (f : q ≡ filePosition bs e) (n : k ≡ indexAs bs q nameSubBlock) where
-  pub named-is : (table : List ℕ) (count : ℕ) → Walk.Filled bs table count → ltb k count ≡ walkedAs bs (filePosition bs e) nameSubBlock
+  pub named-is : (table : List ℕ) (count : ℕ) → WalkTable bs table count → ltb k count ≡ walkedAs bs (filePosition bs e) nameSubBlock
   named-is table count h = rw (n, f, count-is bs table count h) (below-named bs (filePosition bs e) nameSubBlock)
 
   pub block-known : (flags : List ℕ) → Marked bs flags → dimensionCount bs e ≤ 16 → nextEntry bs e ≤ length bs → first (tileRows (scanOf bs) e) ≡ Accepted → BlockKnown bs flags k e q

@@ -11,7 +11,7 @@ ghost use Rattle.format.specs.Segments.{RoomIn, walkedAs};
 ghost use Rattle.format.specs.File.{directoryPosition};
 ghost use Rattle.format.specs.Entry.{nextEntry, dimensionCount, filePosition};
 ghost use Rattle.format.specs.Directory.{roomEnd, entryPlace, directoryBad, headRows, tileRows, subBlockRows, attachmentRows, entryRows, directoryRows};
-ghost use Rattle.segments.specs.Walk.{Filled};
+ghost use Rattle.segments.specs.Walk.{WalkTable};
 ghost use Rattle.subblocks.specs.Judged.{Placed};
 ghost use Rattle.directory.specs.Marks.{Marked, BlockKnown, ChunksKnown, AnsweredMarked, ChunksAnswered};
 
@@ -129,7 +129,7 @@ fn judge_sub_block(s: &[u8], e: u64, q: u64) -> Verdict
 }
 
 // The chunks of the sub-block at q, walked segment k: 17, 18. They are judged once: for every entry that agrees with the sub-block they are the same.
-fn judge_chunks(s: &[u8], judged: &mut [u8; 8192], k: usize, e: u64, q: u64) -> Verdict
+fn judge_chunks_once(s: &[u8], judged: &mut [u8; 8192], k: usize, e: u64, q: u64) -> Verdict
     requires { ⌜ ChunksKnown (now s) (now judged) k e q ⌝ }
     ensures { λ r. ⌜ ChunksAnswered (now (s .entry)) (attachmentRows (now (s .entry)) e (now (s .entry)) q) (now (judged .exit)) k r ⌝ }
 {
@@ -154,7 +154,7 @@ fn judge_block(s: &[u8], judged: &mut [u8; 8192], k: usize, e: u64, q: u64) -> V
     let v = judge_sub_block(s, e, q);
     match v {
         Verdict::Refused { number, place } => Verdict::Refused { number, place },
-        Verdict::Accepted => judge_chunks(s, judged, k, e, q),
+        Verdict::Accepted => judge_chunks_once(s, judged, k, e, q),
     }
 }
 
@@ -166,7 +166,7 @@ fn judge_body(
     judged: &mut [u8; 8192],
     e: u64,
 ) -> Verdict
-    requires { ⌜ Filled (now s) (now table) count ⌝ }
+    requires { ⌜ WalkTable (now s) (now table) count ⌝ }
     requires { ⌜ Marked (now s) (now judged) ⌝ }
     requires { ⌜ (dimensionCount (now s) e ≤ 16) × (nextEntry (now s) e ≤ length (now s)) ⌝ }
     ensures { λ r. ⌜ AnsweredMarked (now (s .entry)) (tileRows (scanOf (now (s .entry))) e ++ (subBlockRows (now (s .entry)) e (now (s .entry)) (filePosition (now (s .entry)) e) ++ attachmentRows (now (s .entry)) e (now (s .entry)) (filePosition (now (s .entry)) e))) (now (judged .exit)) r ⌝ }
@@ -189,7 +189,7 @@ fn judge_entry(
     d: u64,
     e: u64,
 ) -> Verdict
-    requires { ⌜ Filled (now s) (now table) count ⌝ }
+    requires { ⌜ WalkTable (now s) (now table) count ⌝ }
     requires { ⌜ Marked (now s) (now judged) ⌝ }
     requires { ⌜ RoomIn (now s) d ⌝ }
     requires { ⌜ e ≤ roomEnd (now s) d ⌝ }
@@ -204,7 +204,7 @@ fn judge_entry(
 
 // The entries of the directory, in order.
 fn judge_entries(s: &[u8], table: &[u64; 8192], count: usize, d: u64, n: u64) -> Verdict
-    requires { ⌜ Filled (now s) (now table) count ⌝ }
+    requires { ⌜ WalkTable (now s) (now table) count ⌝ }
     requires { ⌜ RoomIn (now s) d ⌝ }
     requires { ⌜ (d ≡ directoryPosition (now s)) × (d + 160 ≤ roomEnd (now s) d) ⌝ }
     ensures { λ r. ⌜ r ≡ first (rowsBelow n (λ k. entryRows (scanOf (now (s .entry))) d (entryPlace (now (s .entry)) k))) ⌝ }
@@ -229,7 +229,7 @@ fn judge_entries(s: &[u8], table: &[u64; 8192], count: usize, d: u64, n: u64) ->
 
 // The directory that the file segment names.
 pub fn judge_directory(s: &[u8], table: &[u64; 8192], count: usize) -> Verdict
-    requires { ⌜ Filled (now s) (now table) count ⌝ }
+    requires { ⌜ WalkTable (now s) (now table) count ⌝ }
     requires { ⌜ (112 ≤ length (now s)) × RoomIn (now s) (directoryPosition (now s)) ⌝ }
     ensures { λ r. ⌜ r ≡ first (directoryRows (scanOf (now (s .entry)))) ⌝ }
 {

@@ -1,14 +1,14 @@
 // Judges and reads an entry of the sub-block directory and its dimensions. The callers have shown that what is read lies in the slice.
 use format::Dimension;
 use format::Extent;
-use format::Layer;
+use format::MIndex;
 ghost use mathlib.Core.Path.{_≡_};
 ghost use Prim.Native.Nat.{_+_, _*_, _<_, _≤_, _^_};
 ghost use mathlib.Core.Bool.{false};
 ghost use lib.ListN.{length};
 ghost use Rattle.format.specs.Bytes.{anyBelow};
 ghost use Rattle.format.specs.Entry.{dimensionCount, headBad, letterBad, tooFar, isPlane, stored, sizeBad, dimensionBad, dimensionPlace, nextEntry, hasLetter, repeats, closesPlane, dimensionsBad, letterIndex, letterPlace, isPyramid, pixelBytes};
-ghost use Rattle.format.specs.Records.{extentAt, layerOf, dimensionAt};
+ghost use Rattle.format.specs.Records.{extentAt, mIndexOf, dimensionAt};
 
 // How many dimensions the entry at e has.
 pub fn dimension_count(s: &[u8], e: u64) -> u64
@@ -329,15 +329,15 @@ pub fn extent_at(s: &[u8], d: u64) -> Extent
 }
 
 // The Start of M (77), if the entry has one.
-pub fn layer_of(s: &[u8], e: u64) -> Layer
+pub fn m_index_of(s: &[u8], e: u64) -> MIndex
     requires { ⌜ nextEntry (now s) e ≤ length (now s) ⌝ }
-    ensures { λ r. ⌜ r ≡ layerOf (now (s .entry)) e ⌝ }
+    ensures { λ r. ⌜ r ≡ mIndexOf (now (s .entry)) e ⌝ }
 {
     if holds_letter(s, e, 77) {
         let d = letter_place(s, e, 77);
-        return Layer::M(fields::signed_of(fields::u32_at(s, d + 4)));
+        return MIndex::M(fields::signed_of(fields::u32_at(s, d + 4)));
     }
-    Layer::NoM
+    MIndex::NoM
 }
 
 // The dimension record of the dimension at d. The bits of StartCoordinate stand beside it.

@@ -11,7 +11,7 @@ use Rattle.format.specs.declared.Span.{Span}
 use Rattle.format.specs.declared.SpanAnswer.{SpanAnswer}
 use Rattle.format.specs.declared.SpanAnswer.the-variants as SpanIs
 use Rattle.format.specs.declared.Extent.{Extent}
-use Rattle.format.specs.declared.Layer.the-variants.{NoM}
+use Rattle.format.specs.declared.MIndex.the-variants.{NoM}
 use Rattle.format.specs.declared.TileMask.the-variants.{Unmasked}
 use Rattle.format.specs.declared.Tile.{Tile}
 use Rattle.format.specs.declared.TileAnswer.{TileAnswer}

@@ -18,8 +18,8 @@ use Rattle.format.specs.declared.Verdict.{Verdict}
 use Rattle.format.specs.declared.Verdict.the-variants as Is
 use Rattle.format.specs.declared.Span.{Span}
 use Rattle.format.specs.declared.Extent.{Extent}
-use Rattle.format.specs.declared.Layer.{Layer}
-use Rattle.format.specs.declared.Layer.the-variants.{NoM, M}
+use Rattle.format.specs.declared.MIndex.{MIndex}
+use Rattle.format.specs.declared.MIndex.the-variants.{NoM, M}
 use Rattle.format.specs.declared.Tile.{Tile}
 use Rattle.format.specs.declared.TileMask.{TileMask}
 use Rattle.format.specs.declared.TileMask.the-variants.{Unmasked}
@@ -74,8 +74,8 @@ unfoldable pub extentAt : List ℕ → ℕ → Extent
 extentAt bs d = record { start = signed32 (start bs d); size = size bs d; stored = stored bs d }
 
 -- M (77), if the entry has one
-unfoldable pub layerOf : List ℕ → ℕ → Layer
-layerOf bs e = cond (anyBelow (dimensionCount bs e) (hasLetter bs e 77)) (M (signed32 (start bs (letterPlace bs e 77)))) NoM
+unfoldable pub mIndexOf : List ℕ → ℕ → MIndex
+mIndexOf bs e = cond (anyBelow (dimensionCount bs e) (hasLetter bs e 77)) (M (signed32 (start bs (letterPlace bs e 77)))) NoM
 
 -- of entry n, which stands at e of the file ds, and its sub-block at q of the file bs
 unfoldable pub tileAt : ℕ → List ℕ → ℕ → List ℕ → ℕ → Tile
@@ -89,7 +89,7 @@ tileAt n ds e bs q =
       dimensions = dimensionCount ds e;
       x = extentAt ds (letterPlace ds e 88);
       y = extentAt ds (letterPlace ds e 89);
-      m = layerOf ds e;
+      m = mIndexOf ds e;
       metadata = metadataSpan ds e bs q;
       pixels = pixelsSpan ds e bs q;
       attachment = attachmentSpan ds e bs q;

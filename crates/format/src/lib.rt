@@ -46,7 +46,7 @@ pub struct Extent {
 }
 
 // A tile's place in the stack: the Start of its M, if it has one.
-pub enum Layer {
+pub enum MIndex {
     NoM,
     M(i32),
 }
@@ -61,7 +61,7 @@ pub struct Tile {
     pub dimensions: u64,
     pub x: Extent,
     pub y: Extent,
-    pub m: Layer,
+    pub m: MIndex,
     pub metadata: Span,
     pub pixels: Span,
     pub attachment: Span,

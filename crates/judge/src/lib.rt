@@ -12,14 +12,14 @@ ghost use Rattle.format.specs.Attachments.{metadataRows, attachmentsRows, attac
 ghost use Rattle.format.specs.Rules.{verdict};
 ghost use Rattle.format.specs.Answers.{VerdictAnswered};
 ghost use Rattle.format.specs.declared.Verdict.the-variants.{Accepted};
-ghost use Rattle.segments.specs.Walk.{Filled};
+ghost use Rattle.segments.specs.Walk.{WalkTable};
 ghost use Rattle.judge.specs.Located.{Located};
 
 // ---- the file segment
 
 // Whether position q names no walked segment of that name.
 fn names_none(s: &[u8], table: &[u64; 8192], count: usize, q: u64, name: &[u8]) -> bool
-    requires { ⌜ Filled (now s) (now table) count ⌝ }
+    requires { ⌜ WalkTable (now s) (now table) count ⌝ }
     requires { ⌜ length (now name) ≡ 16 ⌝ }
     ensures { λ r. ⌜ r ≡ namesNone (now (s .entry)) q (now (name .entry)) ⌝ }
 {
@@ -28,7 +28,7 @@ fn names_none(s: &[u8], table: &[u64; 8192], count: usize, q: u64, name: &[u8]) 
 
 // The same, where 0 means none.
 fn names_none_but_0(s: &[u8], table: &[u64; 8192], count: usize, q: u64, name: &[u8]) -> bool
-    requires { ⌜ Filled (now s) (now table) count ⌝ }
+    requires { ⌜ WalkTable (now s) (now table) count ⌝ }
     requires { ⌜ length (now name) ≡ 16 ⌝ }
     ensures { λ r. ⌜ r ≡ namesNoneBut0 (now (s .entry)) q (now (name .entry)) ⌝ }
 {
@@ -40,7 +40,7 @@ fn names_none_but_0(s: &[u8], table: &[u64; 8192], count: usize, q: u64, name: &
 
 // Refusals 6, 7, 8, and 9 in field order.
 fn judge_file(s: &[u8], table: &[u64; 8192], count: usize) -> Verdict
-    requires { ⌜ Filled (now s) (now table) count ⌝ }
+    requires { ⌜ WalkTable (now s) (now table) count ⌝ }
     requires { ⌜ 112 ≤ length (now s) ⌝ }
     ensures { λ r. ⌜ r ≡ first (fileRows (now (s .entry))) ⌝ }
 {
@@ -99,7 +99,7 @@ fn judge_file(s: &[u8], table: &[u64; 8192], count: usize) -> Verdict
 
 // The metadata segment and the attachment directory.
 fn judge_annexes(s: &[u8], table: &[u64; 8192], count: usize) -> Verdict
-    requires { ⌜ Filled (now s) (now table) count ⌝ }
+    requires { ⌜ WalkTable (now s) (now table) count ⌝ }
     requires { ⌜ (112 ≤ length (now s)) × Located (now s) ⌝ }
     ensures { λ r. ⌜ r ≡ first (metadataRows (now (s .entry)) ++ attachmentsRows (now (s .entry))) ⌝ }
 {
@@ -112,7 +112,7 @@ fn judge_annexes(s: &[u8], table: &[u64; 8192], count: usize) -> Verdict
 
 // What the file segment names.
 fn judge_named(s: &[u8], table: &[u64; 8192], count: usize) -> Verdict
-    requires { ⌜ Filled (now s) (now table) count ⌝ }
+    requires { ⌜ WalkTable (now s) (now table) count ⌝ }
     requires { ⌜ (112 ≤ length (now s)) × Located (now s) ⌝ }
     ensures { λ r. ⌜ r ≡ first (directoryRows (scanOf (now (s .entry))) ++ (metadataRows (now (s .entry)) ++ attachmentsRows (now (s .entry)))) ⌝ }
 {
@@ -125,7 +125,7 @@ fn judge_named(s: &[u8], table: &[u64; 8192], count: usize) -> Verdict
 
 // The file segment and what it names.
 fn judge_walked(s: &[u8], table: &[u64; 8192], count: usize) -> Verdict
-    requires { ⌜ Filled (now s) (now table) count ⌝ }
+    requires { ⌜ WalkTable (now s) (now table) count ⌝ }
     requires { ⌜ 112 ≤ length (now s) ⌝ }
     ensures { λ r. ⌜ r ≡ first (fileRows (now (s .entry)) ++ (directoryRows (scanOf (now (s .entry))) ++ (metadataRows (now (s .entry)) ++ attachmentsRows (now (s .entry))))) ⌝ }
 {

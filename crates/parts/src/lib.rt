@@ -229,7 +229,7 @@ pub fn attachment_refusal(s: &[u8], n: u64) -> Verdict
 }
 
 // Where attachment n stands.
-fn attachment_place(s: &[u8], n: u64) -> u64
+fn attachment_position(s: &[u8], n: u64) -> u64
     requires { ⌜ attachmentVerdict (scanOf (now s)) n ≡ Accepted ⌝ }
     ensures { λ r. ⌜ r ≡ attachmentPosition (now (s .entry)) (attachmentEntry (attachmentDirectoryPosition (now (s .entry))) n) ⌝ }
 {
@@ -254,7 +254,7 @@ pub fn attachment_data_span(s: &[u8], n: u64) -> SpanAnswer
     let v = attachment_refusal(s, n);
     match v {
         Verdict::Refused { number, place } => SpanAnswer::Refused { number, place },
-        Verdict::Accepted => SpanAnswer::Found(data_span(s, n, attachment_place(s, n))),
+        Verdict::Accepted => SpanAnswer::Found(data_span(s, n, attachment_position(s, n))),
     }
 }
 

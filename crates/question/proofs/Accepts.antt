@@ -21,31 +21,31 @@ use Rattle.question.proofs.Agreeing.{agree-ok, agree-accepted}
 pub record Accepts (a : Asked) (target map : ℕ) : Type 0 where
   pub file : first (checks (a .scan)) ≡ Accepted
   pub window : windowBad (askedWindow a) ≡ false
-  pub pixel : pixelBad (a .frame .«pixel_type») (a .background) ≡ false
-  pub lent : lentBad (askedWindow a) (a .frame .«pixel_type») target map ≡ false
+  pub pixel : pixelBad (a .request .«pixel_type») (a .background) ≡ false
+  pub lent : lentBad (askedWindow a) (a .request .«pixel_type») target map ≡ false
   pub agree : (k : ℕ) → k < tileCount (a .scan .file)
-      → cond (chosen a k) (typeBad (a .scan .file) (askedWindow a) (a .frame .«pixel_type») (entryPlace (a .scan .file) k)) false ≡ false
+      → cond (chosen a k) (typeBad (a .scan .file) (askedWindow a) (a .request .«pixel_type») (entryPlace (a .scan .file) k)) false ≡ false
 
 module _ (a : Asked) (target map : ℕ) where
   pub call-ok : callVerdict a target map ≡ Accepted → Accepts a target map
   unfolding callVerdict askRows
   call-ok e =
-      let whole = first-both (checks (a .scan)) (askRows (a .frame) (a .background) target map ++ agreeRows (a .scan .file) (chosen a) (a .frame)) e in
-      let asked = first-both (askRows (a .frame) (a .background) target map) (agreeRows (a .scan .file) (chosen a) (a .frame)) (whole .1) in
-      let g = passed (askRows (a .frame) (a .background) target map) (asked .0) in
+      let whole = first-both (checks (a .scan)) (askRows (a .request) (a .background) target map ++ agreeRows (a .scan .file) (chosen a) (a .request)) e in
+      let asked = first-both (askRows (a .request) (a .background) target map) (agreeRows (a .scan .file) (chosen a) (a .request)) (whole .1) in
+      let g = passed (askRows (a .request) (a .background) target map) (asked .0) in
       record {
         file = whole .0;
         window = g 0;
         pixel = g 1;
         lent = g 2;
-        agree = agree-ok (a .scan .file) (chosen a) (a .frame) (asked .1);
+        agree = agree-ok (a .scan .file) (chosen a) (a .request) (asked .1);
       }
 
   pub call-accepted : Accepts a target map → callVerdict a target map ≡ Accepted
   unfolding callVerdict askRows
   call-accepted p =
       first-pass (checks (a .scan)) _ (p .file)
-      ∙ (rw (p .window, p .pixel, p .lent) (agree-accepted (a .scan .file) (chosen a) (a .frame) (p .agree)))
+      ∙ (rw (p .window, p .pixel, p .lent) (agree-accepted (a .scan .file) (chosen a) (a .request) (p .agree)))
 
 -- an accepted file has at most 4,096 entries
 pub few-tiles : (sc : Scan) → first (checks sc) ≡ Accepted → tileCount (sc .file) ≤ 4096

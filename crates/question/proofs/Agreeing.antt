@@ -14,24 +14,24 @@ use Rattle.format.proofs.Firsts.{passed, rows-each, rows-all}
 use Rattle.plane.specs.Tiles.{Window}
 use Rattle.plane.specs.Cuts.{Meets}
 use Rattle.tiles.specs.FileTile.{rectangle, meets}
-use Rattle.question.specs.Question.{windowOf, typeBad, agreeRows}
-use Rattle.question.specs.declared.Frame.{Frame}
+use Rattle.question.specs.Question.{requestWindow, typeBad, agreeRows}
+use Rattle.question.specs.declared.WindowRequest.{WindowRequest}
 
 -- ---- all entries, and each
 
-module _ (bs : List ℕ) (chosen : ℕ → Bool) (f : Frame) where
+module _ (bs : List ℕ) (chosen : ℕ → Bool) (f : WindowRequest) where
   at : ℕ → Bool
-  at k = cond (chosen k) (typeBad bs (windowOf f) (f .«pixel_type») (entryPlace bs k)) false
+  at k = cond (chosen k) (typeBad bs (requestWindow f) (f .«pixel_type») (entryPlace bs k)) false
 
   rows : ℕ → List Check
   rows k = row 23 (entryPlace bs k) (at k) ∷ []
 
   pub agree-ok : first (agreeRows bs chosen f) ≡ Accepted → (k : ℕ) → k < tileCount bs
-      → cond (chosen k) (typeBad bs (windowOf f) (f .«pixel_type») (entryPlace bs k)) false ≡ false
+      → cond (chosen k) (typeBad bs (requestWindow f) (f .«pixel_type») (entryPlace bs k)) false ≡ false
   unfolding agreeRows at rows
   agree-ok e k h = passed (rows k) (rows-each (tileCount bs) k rows e h) 0
 
-  pub agree-accepted : ((k : ℕ) → k < tileCount bs → cond (chosen k) (typeBad bs (windowOf f) (f .«pixel_type») (entryPlace bs k)) false ≡ false)
+  pub agree-accepted : ((k : ℕ) → k < tileCount bs → cond (chosen k) (typeBad bs (requestWindow f) (f .«pixel_type») (entryPlace bs k)) false ≡ false)
       → first (agreeRows bs chosen f) ≡ Accepted
   unfolding agreeRows at rows
   agree-accepted g = rows-all (tileCount bs) rows (λ k h. rw (g k h))

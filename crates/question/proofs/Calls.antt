@@ -35,11 +35,11 @@ module _ (a : Asked) (t m : List ℕ) (e : callVerdict a (length t) (length m) �
   pub room : Room (askedWindow a) (askedBytes a) t m
   room =
       let o = call-ok a (length t) (length m) e in
-      let l = lent-ok (askedWindow a) (a .frame .«pixel_type») (length t) (length m) (o .lent) in
+      let l = lent-ok (askedWindow a) (a .request .«pixel_type») (length t) (length m) (o .lent) in
       record {
         wide = proper .wide;
         high = proper .high;
-        bytes = pixel-ok (a .frame .«pixel_type») (a .background) (o .pixel) .0;
+        bytes = pixel-ok (a .request .«pixel_type») (a .background) (o .pixel) .0;
         target = l .0;
         map = l .1;
       }
@@ -49,7 +49,7 @@ module _ (a : Asked) (t m : List ℕ) (e : callVerdict a (length t) (length m) �
   pub ranked : Ranked (selected a)
   unfolding selected
   ranked =
-      tiles-ranked (a .scan) (masksOn (a .frame .masks)) (chosen a) (tileCount (a .scan .file))
+      tiles-ranked (a .scan) (masksOn (a .request .masks)) (chosen a) (tileCount (a .scan .file))
       (few-tiles (a .scan) (call-ok a (length t) (length m) e .file))
 
   pub runs : Runs.Demand3 (askedBytes a) (a .background) (selected a)

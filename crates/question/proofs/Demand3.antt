@@ -7,7 +7,7 @@ use Rattle.plane.specs.Tiles.{area}
 use Rattle.plane.specs.Turns.{Painting}
 use Rattle.plane.specs.Cuts.{fore, rear, SamePixels}
 use Rattle.question.specs.Call.{callVerdict, askedWindow, askedBytes, answer, targetAfter, mapAfter, numberIn, placeIn, coveredIn}
-use Rattle.question.specs.Demand3.{AllCalls, Agree, foreFrame, rearFrame}
+use Rattle.question.specs.Demand3.{AllCalls, Agree, foreRequest, rearRequest}
 use Rattle.question.proofs.Accepts.{call-ok}
 use Rattle.question.proofs.Calls.{decide, proper, room, ranked, runs, after-is, covered-is}
 use Rattle.question.proofs.Halves.{fore-half, rear-half, rear-int32, half-accepted, half-room, half-after, half-covered}
@@ -36,8 +36,8 @@ all-calls a left top t m =
       cut = λ e l c k k₁ k₂ t₁ m₁ t₂ m₂ r₁ r₂.
           let o = call-ok a (length t) (length m) e in
           let halves = runs a t m e .halves l w c (proper a t m e) in
-          let f₁ = foreFrame l (a .frame) in
-          let f₂ = rearFrame l (a .frame) in
+          let f₁ = foreRequest l (a .request) in
+          let f₂ = rearRequest l (a .request) in
           let h₁ = fore-half l a in
           let h₂ = rear-half l a left top in
           let int32 = rear-int32 l a left top (proper a t m e) c in

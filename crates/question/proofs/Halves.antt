@@ -12,27 +12,27 @@ use Rattle.plane.specs.Tiles.{Tile, Window, area}
 use Rattle.plane.specs.Turns.{Painting, Kind, compose}
 use Rattle.plane.specs.Demand2.{Room}
 use Rattle.plane.specs.Cuts.{Line, column, row, Cuts, fore, rear, Proper, Meets}
-use Rattle.question.specs.Question.{windowOf}
+use Rattle.question.specs.Question.{requestWindow}
 use Rattle.question.specs.Call.{Asked, chosen, callVerdict, askedWindow, askedBytes, selected, painted, answer, coveredIn}
-use Rattle.question.specs.Demand3.{Int32, foreFrame, rearFrame, RoomFor, after}
-use Rattle.question.specs.declared.Frame.{Frame}
+use Rattle.question.specs.Demand3.{Int32, foreRequest, rearRequest, RoomFor, after}
+use Rattle.question.specs.declared.WindowRequest.{WindowRequest}
 use Rattle.question.proofs.Shifts.{shifted-more, int32-more}
 use Rattle.question.proofs.Asking.{window-accepted, lent-accepted}
 use Rattle.question.proofs.Agreeing.{type-less}
 use Rattle.question.proofs.Accepts.{Accepts, call-accepted}
 use Rattle.question.proofs.Calls.{room, after-is, covered-is}
 
--- ---- a question that differs from another in its frame alone, and that in the window alone, which is w
+-- ---- a question that differs from another in its request alone, and that in the window alone, which is w
 
-abbrev pub framed : Asked → Frame → Asked
-framed a f = record { scan = a .scan; starts = a .starts; anyScene = a .anyScene; frame = f; background = a .background }
+abbrev pub framed : Asked → WindowRequest → Asked
+framed a f = record { scan = a .scan; starts = a .starts; anyScene = a .anyScene; request = f; background = a .background }
 
-pub record Half (a : Asked) (w : Window) (f : Frame) : Type 0 where
-  pub window : windowOf f ≡ w
-  pub type : f .«pixel_type» ≡ a .frame .«pixel_type»
-  pub masks : f .masks ≡ a .frame .masks
+pub record Half (a : Asked) (w : Window) (f : WindowRequest) : Type 0 where
+  pub window : requestWindow f ≡ w
+  pub type : f .«pixel_type» ≡ a .request .«pixel_type»
+  pub masks : f .masks ≡ a .request .masks
 
-pub fore-half : (l : Line) (a : Asked) → Half a (fore l (askedWindow a)) (foreFrame l (a .frame))
+pub fore-half : (l : Line) (a : Asked) → Half a (fore l (askedWindow a)) (foreRequest l (a .request))
 fore-half (column c) a = record { window = refl; type = refl; masks = refl }
 fore-half (row c) a = record { window = refl; type = refl; masks = refl }
 
@@ -40,17 +40,17 @@ same-window : {x x′ y y′ d h : ℕ} → x ≡ x′ → y ≡ y′
     → _≡_ {A = Window} (record { left = x; top = y; width = d; height = h }) (record { left = x′; top = y′; width = d; height = h })
 same-window p q = cc
 
-pub rear-half : (l : Line) (a : Asked) → Int32 (a .frame .left) → Int32 (a .frame .top) → Half a (rear l (askedWindow a)) (rearFrame l (a .frame))
-rear-half (column c) a x y = record { window = same-window (omega (arith, shifted-more (a .frame .left) c x)) refl; type = refl; masks = refl }
-rear-half (row c) a x y = record { window = same-window refl (omega (arith, shifted-more (a .frame .top) c y)); type = refl; masks = refl }
+pub rear-half : (l : Line) (a : Asked) → Int32 (a .request .left) → Int32 (a .request .top) → Half a (rear l (askedWindow a)) (rearRequest l (a .request))
+rear-half (column c) a x y = record { window = same-window (omega (arith, shifted-more (a .request .left) c x)) refl; type = refl; masks = refl }
+rear-half (row c) a x y = record { window = same-window refl (omega (arith, shifted-more (a .request .top) c y)); type = refl; masks = refl }
 
 -- its left and top are numbers of 32 bits again, so that it can be asked
-pub rear-int32 : (l : Line) (a : Asked) → Int32 (a .frame .left) → Int32 (a .frame .top) → Proper (askedWindow a) → Cuts l (askedWindow a)
-    → Int32 (rearFrame l (a .frame) .left) × Int32 (rearFrame l (a .frame) .top)
-rear-int32 (column c) a x y p h = (int32-more (a .frame .left) c x (omega (arith, p .right)), y)
-rear-int32 (row c) a x y p h = (x, int32-more (a .frame .top) c y (omega (arith, p .bottom)))
+pub rear-int32 : (l : Line) (a : Asked) → Int32 (a .request .left) → Int32 (a .request .top) → Proper (askedWindow a) → Cuts l (askedWindow a)
+    → Int32 (rearRequest l (a .request) .left) × Int32 (rearRequest l (a .request) .top)
+rear-int32 (column c) a x y p h = (int32-more (a .request .left) c x (omega (arith, p .right)), y)
+rear-int32 (row c) a x y p h = (x, int32-more (a .request .top) c y (omega (arith, p .bottom)))
 
-module _ (a : Asked) (w : Window) (f : Frame) (h : Half a w f) where
+module _ (a : Asked) (w : Window) (f : WindowRequest) (h : Half a w f) where
   -- the same tiles are selected, of as many bytes a pixel
   half-selected : selected (framed a f) ≡ selected a
   unfolding selected
@@ -69,12 +69,12 @@ module _ (a : Asked) (w : Window) (f : Frame) (h : Half a w f) where
     half-accepts : (t m : List ℕ) → RoomFor (framed a f) t m → Accepts (framed a f) (length t) (length m)
     half-accepts t m r = record {
       file = o .file;
-      window = window-accepted (windowOf f) (subst (λ (v : Window). Proper v) (sym (h .window)) p);
+      window = window-accepted (requestWindow f) (subst (λ (v : Window). Proper v) (sym (h .window)) p);
       pixel = rw (h .type) (o .pixel);
-      lent = lent-accepted (windowOf f) (f .«pixel_type») (length t) (length m) (r .target) (r .map);
+      lent = lent-accepted (requestWindow f) (f .«pixel_type») (length t) (length m) (r .target) (r .map);
       agree = λ k l.
           rw (h .type)
-          (type-less (a .scan .file) (askedWindow a) (windowOf f) (a .frame .«pixel_type») (entryPlace (a .scan .file) k)
+          (type-less (a .scan .file) (askedWindow a) (requestWindow f) (a .request .«pixel_type») (entryPlace (a .scan .file) k)
           (λ q i. less q (subst (λ (v : Window). Meets q v) (h .window) i))
           (chosen a k)
           (o .agree k l));

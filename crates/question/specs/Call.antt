@@ -17,8 +17,8 @@ use Rattle.plane.specs.Tiles.{Tile, Window, area}
 use Rattle.plane.specs.Turns.{Painting, Kind, compose}
 use Rattle.selection.specs.Select.{selects}
 use Rattle.tiles.specs.FileTile.{tilesBelow}
-use Rattle.question.specs.Question.{masksOn, windowOf, askRows, agreeRows}
-use Rattle.question.specs.declared.Frame.{Frame}
+use Rattle.question.specs.Question.{masksOn, requestWindow, askRows, agreeRows}
+use Rattle.question.specs.declared.WindowRequest.{WindowRequest}
 use Rattle.question.specs.declared.Composed.{Composed}
 use Rattle.question.specs.declared.Composed.the-variants as Ans
 
@@ -27,7 +27,7 @@ pub record Asked : Type 0 where
   pub scan : Scan
   pub starts : List ℤ
   pub anyScene : Bool
-  pub frame : Frame
+  pub request : WindowRequest
   pub background : List ℕ
 
 -- entry k is chosen: its tile is selected
@@ -36,17 +36,17 @@ chosen a k = selects (a .scan .file) (a .starts) (a .anyScene) (entryPlace (a .s
 
 -- the refusals in their order: the file's own, then 20, 21, 22, then 23; of lent bytes of these lengths
 unfoldable pub callVerdict : Asked → ℕ → ℕ → Verdict
-callVerdict a target map = first (checks (a .scan) ++ (askRows (a .frame) (a .background) target map ++ agreeRows (a .scan .file) (chosen a) (a .frame)))
+callVerdict a target map = first (checks (a .scan) ++ (askRows (a .request) (a .background) target map ++ agreeRows (a .scan .file) (chosen a) (a .request)))
 
 -- the window, bytes a pixel, and the selected tiles
 abbrev pub askedWindow : Asked → Window
-askedWindow a = windowOf (a .frame)
+askedWindow a = requestWindow (a .request)
 
 abbrev pub askedBytes : Asked → ℕ
-askedBytes a = pixelBytes (a .frame .«pixel_type»)
+askedBytes a = pixelBytes (a .request .«pixel_type»)
 
 unfoldable pub selected : Asked → List Tile
-selected a = tilesBelow (tileCount (a .scan .file)) (a .scan) (masksOn (a .frame .masks)) (chosen a)
+selected a = tilesBelow (tileCount (a .scan .file)) (a .scan) (masksOn (a .request .masks)) (chosen a)
 
 -- the composer's whole run over the lent bytes t and m
 abbrev pub painted : Kind → Asked → List ℕ → List ℕ → Painting

@@ -13,7 +13,7 @@ use Rattle.plane.specs.Demand2.{Plane}
 use Rattle.plane.specs.Cuts.{Line, column, row, Cuts, fore, rear, Halves, SamePixels}
 use Rattle.plane.specs.Demand3 as Runs
 use Rattle.question.specs.Call.{Asked, callVerdict, askedWindow, askedBytes, selected, painted, answer, targetAfter, mapAfter, numberIn, placeIn, coveredIn, storedIn, Answered}
-use Rattle.question.specs.declared.Frame.{Frame}
+use Rattle.question.specs.declared.WindowRequest.{WindowRequest}
 use Rattle.question.specs.declared.Composed.{Composed}
 
 -- a number of 32 bits, signed: what left and top are
@@ -23,19 +23,19 @@ Int32 (negsuc n) = n < 2 ^ 31
 
 -- ---- a straight line cuts the window of a question into two: everything else is given exactly as the whole window's call was
 
-abbrev pub foreFrame : Line → Frame → Frame
-foreFrame (column c) f = record { «pixel_type» = f .«pixel_type»; left = f .left; top = f .top; width = c; height = f .height; masks = f .masks }
-foreFrame (row c) f = record { «pixel_type» = f .«pixel_type»; left = f .left; top = f .top; width = f .width; height = c; masks = f .masks }
+abbrev pub foreRequest : Line → WindowRequest → WindowRequest
+foreRequest (column c) f = record { «pixel_type» = f .«pixel_type»; left = f .left; top = f .top; width = c; height = f .height; masks = f .masks }
+foreRequest (row c) f = record { «pixel_type» = f .«pixel_type»; left = f .left; top = f .top; width = f .width; height = c; masks = f .masks }
 
-abbrev pub rearFrame : Line → Frame → Frame
-rearFrame (column c) f = record { «pixel_type» = f .«pixel_type»; left = f .left +ℤ pos c; top = f .top; width = f .width - c; height = f .height; masks = f .masks }
-rearFrame (row c) f = record { «pixel_type» = f .«pixel_type»; left = f .left; top = f .top +ℤ pos c; width = f .width; height = f .height - c; masks = f .masks }
+abbrev pub rearRequest : Line → WindowRequest → WindowRequest
+rearRequest (column c) f = record { «pixel_type» = f .«pixel_type»; left = f .left +ℤ pos c; top = f .top; width = f .width - c; height = f .height; masks = f .masks }
+rearRequest (row c) f = record { «pixel_type» = f .«pixel_type»; left = f .left; top = f .top +ℤ pos c; width = f .width; height = f .height - c; masks = f .masks }
 
 abbrev pub foreOf : Line → Asked → Asked
-foreOf l a = record { scan = a .scan; starts = a .starts; anyScene = a .anyScene; frame = foreFrame l (a .frame); background = a .background }
+foreOf l a = record { scan = a .scan; starts = a .starts; anyScene = a .anyScene; request = foreRequest l (a .request); background = a .background }
 
 abbrev pub rearOf : Line → Asked → Asked
-rearOf l a = record { scan = a .scan; starts = a .starts; anyScene = a .anyScene; frame = rearFrame l (a .frame); background = a .background }
+rearOf l a = record { scan = a .scan; starts = a .starts; anyScene = a .anyScene; request = rearRequest l (a .request); background = a .background }
 
 -- a lent target and map with room enough for a question's window
 pub record RoomFor (a : Asked) (t m : List ℕ) : Type 0 where
@@ -76,7 +76,7 @@ pub record Demand3 (a : Asked) (t m : List ℕ) : Type 0 where
   -- a cut window adds up, whichever composer serves the whole and each half: each pixel is in one half, and the halves can be asked
   pub cut : callVerdict a (length t) (length m) ≡ Accepted → (l : Line) → Cuts l (askedWindow a) → (k k₁ k₂ : Kind) (t₁ m₁ t₂ m₂ : List ℕ)
       → RoomFor (foreOf l a) t₁ m₁ → RoomFor (rearOf l a) t₂ m₂
-      → Halves l (askedWindow a) × Int32 (rearFrame l (a .frame) .left) × Int32 (rearFrame l (a .frame) .top)
+      → Halves l (askedWindow a) × Int32 (rearRequest l (a .request) .left) × Int32 (rearRequest l (a .request) .top)
       × (askedWindow (foreOf l a) ≡ fore l (askedWindow a)) × (askedWindow (rearOf l a) ≡ rear l (askedWindow a))
       × (callVerdict (foreOf l a) (length t₁) (length m₁) ≡ Accepted) × (callVerdict (rearOf l a) (length t₂) (length m₂) ≡ Accepted)
       × SamePixels (askedBytes a) (askedWindow a) (fore l (askedWindow a)) (after k a t m) (after k₁ (foreOf l a) t₁ m₁)
@@ -85,10 +85,10 @@ pub record Demand3 (a : Asked) (t m : List ℕ) : Type 0 where
 
 -- demand 3, entire: of any file bytes, any question and any lent bytes
 abbrev pub AllCalls : Type 0
-AllCalls = (a : Asked) → Int32 (a .frame .left) → Int32 (a .frame .top) → (t m : List ℕ) → Demand3 a t m
+AllCalls = (a : Asked) → Int32 (a .request .left) → Int32 (a .request .top) → (t m : List ℕ) → Demand3 a t m
 
 -- two calls that keep the composers' promises, one of each, agree
 abbrev pub Agree : Type 0
-Agree = (a : Asked) → Int32 (a .frame .left) → Int32 (a .frame .top) → (t m t₁ m₁ t₂ m₂ : List ℕ) (r₁ r₂ : Composed)
+Agree = (a : Asked) → Int32 (a .request .left) → Int32 (a .request .top) → (t m t₁ m₁ t₂ m₂ : List ℕ) (r₁ r₂ : Composed)
     → Answered plain a t m t₁ m₁ r₁ → Answered quick a t m t₂ m₂ r₂
     → (numberIn r₁ ≡ numberIn r₂) × (placeIn r₁ ≡ placeIn r₂) × (coveredIn r₁ ≡ coveredIn r₂) × (t₁ ≡ t₂) × (m₁ ≡ m₂)

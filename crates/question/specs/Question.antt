@@ -12,7 +12,7 @@ use Rattle.plane.specs.Tiles.{Window}
 use Rattle.tiles.specs.FileTile.{rectangle, meets}
 use Rattle.question.specs.declared.Masks.{Masks}
 use Rattle.question.specs.declared.Masks.the-variants.{NotChosen, On, Off}
-use Rattle.question.specs.declared.Frame.{Frame}
+use Rattle.question.specs.declared.WindowRequest.{WindowRequest}
 
 -- masks are off unless asked for
 abbrev pub masksOn : Masks → Bool
@@ -21,8 +21,8 @@ masksOn On = true
 masksOn Off = false
 
 -- the window in plane coordinates
-abbrev pub windowOf : Frame → Window
-windowOf f = record { left = shifted (f .left); top = shifted (f .top); width = f .width; height = f .height }
+abbrev pub requestWindow : WindowRequest → Window
+requestWindow f = record { left = shifted (f .left); top = shifted (f .top); width = f .width; height = f .height }
 
 -- ---- ask
 
@@ -50,11 +50,11 @@ lentBad w t target map =
     ltb map ((w .height * w .width + 7) / 8) ∷
     [])
 
-unfoldable pub askRows : Frame → List ℕ → ℕ → ℕ → List Check
+unfoldable pub askRows : WindowRequest → List ℕ → ℕ → ℕ → List Check
 askRows f background target map =
-    row 20 0 (windowBad (windowOf f)) ∷
+    row 20 0 (windowBad (requestWindow f)) ∷
     row 21 0 (pixelBad (f .«pixel_type») background) ∷
-    row 22 0 (lentBad (windowOf f) (f .«pixel_type») target map) ∷
+    row 22 0 (lentBad (requestWindow f) (f .«pixel_type») target map) ∷
     []
 
 -- ---- agree
@@ -63,6 +63,6 @@ askRows f background target map =
 unfoldable pub typeBad : List ℕ → Window → ℕ → ℕ → Bool
 typeBad bs w t e = cond (meets (rectangle bs e) w) (not (eqb (pixelType bs e) t)) false
 
-unfoldable pub agreeRows : List ℕ → (ℕ → Bool) → Frame → List Check
+unfoldable pub agreeRows : List ℕ → (ℕ → Bool) → WindowRequest → List Check
 agreeRows bs chosen f =
-    rowsBelow (tileCount bs) (λ k. row 23 (entryPlace bs k) (cond (chosen k) (typeBad bs (windowOf f) (f .«pixel_type») (entryPlace bs k)) false) ∷ [])
+    rowsBelow (tileCount bs) (λ k. row 23 (entryPlace bs k) (cond (chosen k) (typeBad bs (requestWindow f) (f .«pixel_type») (entryPlace bs k)) false) ∷ [])

@@ -8,7 +8,7 @@ pub enum Masks {
 }
 
 // The question but for its starts and the background: the asked pixel type, the window, and the masks choice.
-pub struct Frame {
+pub struct WindowRequest {
     pub pixel_type: u64,
     pub left: i32,
     pub top: i32,

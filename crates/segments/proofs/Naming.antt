@@ -12,15 +12,15 @@ use Rattle.format.specs.Bytes.{sameAt}
 use Rattle.format.specs.Segments.{walked, member, walkedAs}
 use Rattle.format.proofs.Below.{and-both}
 use Rattle.format.proofs.SegmentLaws.{next-is, walked-sized}
-use Rattle.segments.specs.Walk.{Filled, indexIn, indexAs}
+use Rattle.segments.specs.Walk.{WalkTable, indexIn, indexAs}
 use Rattle.segments.proofs.Search.{index-member, member-index}
 
-pub count-is : (bs table : List ℕ) (count : ℕ) → Filled bs table count → count ≡ length (walked bs)
+pub count-is : (bs table : List ℕ) (count : ℕ) → WalkTable bs table count → count ≡ length (walked bs)
 count-is bs table count f = sym (length-take-le count table (omega (arith, f .few, f .size))) ∙ ap length (f .holds)
 
 -- ---- k is the index of q in the table
 
-module _ (bs table : List ℕ) (count q : ℕ) (f : Filled bs table count) (k : ℕ) (e : k ≡ indexIn q (take count table)) where
+module _ (bs table : List ℕ) (count q : ℕ) (f : WalkTable bs table count) (k : ℕ) (e : k ≡ indexIn q (take count table)) where
   index-is : k ≡ indexIn q (walked bs)
   index-is = rw (f .holds) at e
 

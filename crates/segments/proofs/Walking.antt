@@ -14,7 +14,7 @@ use Rattle.format.specs.declared.Verdict.{Verdict}
 use Rattle.format.specs.declared.Verdict.the-variants.{Accepted, Refused}
 use Rattle.format.proofs.Firsts.{first-passed, first-stop}
 use Rattle.format.proofs.SegmentLaws.{Sized, sizes-ok, length-ok, next-is, segment-ok, walk-next, walked-next, walk-end, walked-end, walked-few}
-use Rattle.segments.specs.Walk.{WalkAnswered, Filled}
+use Rattle.segments.specs.Walk.{WalkAnswered, WalkTable}
 use Rattle.segments.specs.declared.Walked.{Walked}
 
 -- ---- one turn of the walk, where it stops
@@ -118,7 +118,7 @@ module _ (bs before : List ℕ) (n len : ℕ) (t : List ℕ) (p k : ℕ) (w : Wa
 
 -- its table holds the walked positions
 pub filled : (bs before after : List ℕ) (r : Walked) → length before ≡ 8192 → WalkAnswered (first (segmentsRows bs)) (walked bs) before after r
-    → r .verdict ≡ Accepted → Filled bs after (r .count)
+    → r .verdict ≡ Accepted → WalkTable bs after (r .count)
 filled bs before after r h a e =
     let v : first (segmentsRows bs) ≡ Accepted = sym (a .verdict-is) ∙ e in
     let n : r .count ≡ length (walked bs) = a .count-is ∙ rw v in

@@ -28,7 +28,7 @@ pub record WalkAnswered (v : Verdict) (l before after : List ℕ) (r : Walked) :
   pub table-is : after ≡ l ++ drop (length l) before
 
 -- the table holds the walked positions of bs at its start, as many as count
-pub record Filled (bs table : List ℕ) (count : ℕ) : Type 0 where
+pub record WalkTable (bs table : List ℕ) (count : ℕ) : Type 0 where
   pub size : length table ≡ 8192
   pub few : count ≤ 8192
   pub holds : take count table ≡ walked bs

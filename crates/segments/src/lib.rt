@@ -7,7 +7,7 @@ ghost use Rattle.format.specs.Names.{nameFile, nameDirectory, nameSubBlock, nam
 ghost use Rattle.format.specs.Checks.{first};
 ghost use Rattle.format.specs.Segments.{allocatedSize, usedSize, room, lengthBad, nameBad, allocatedBad, usedBad, endBad, sizesBad, roleBad, segmentRows, walkRows, walkedFrom, walked, segmentsRows, walkedAs};
 ghost use Rattle.format.proofs.SegmentLaws.{Rising};
-ghost use Rattle.segments.specs.Walk.{WalkAnswered, Filled, SegmentsAnswered, indexIn, indexAs};
+ghost use Rattle.segments.specs.Walk.{WalkAnswered, WalkTable, SegmentsAnswered, indexIn, indexAs};
 use fields::same_name;
 use fields::u64_at;
 use format::Verdict;
@@ -341,7 +341,7 @@ fn index_in(table: &[u64; 8192], count: usize, q: u64) -> usize
 
 // The index of the walked segment that q names, of the kind that has that name, by the table that a walk filled; count where there is none.
 pub fn index_as(s: &[u8], table: &[u64; 8192], count: usize, q: u64, name: &[u8]) -> usize
-    requires { ⌜ Filled (now s) (now table) count ⌝ }
+    requires { ⌜ WalkTable (now s) (now table) count ⌝ }
     requires { ⌜ length (now name) ≡ 16 ⌝ }
     ensures { λ r. ⌜ r ≡ indexAs (now (s .entry)) q (now (name .entry)) ⌝ }
 {
@@ -357,7 +357,7 @@ pub fn index_as(s: &[u8], table: &[u64; 8192], count: usize, q: u64, name: &[u8]
 
 // Whether q names a walked segment of the kind that has that name.
 pub fn walked_as(s: &[u8], table: &[u64; 8192], count: usize, q: u64, name: &[u8]) -> bool
-    requires { ⌜ Filled (now s) (now table) count ⌝ }
+    requires { ⌜ WalkTable (now s) (now table) count ⌝ }
     requires { ⌜ length (now name) ≡ 16 ⌝ }
     ensures { λ r. ⌜ r ≡ walkedAs (now (s .entry)) q (now (name .entry)) ⌝ }
 {

@@ -16,7 +16,7 @@ use Rattle.format.specs.Segments.{room}
 use Rattle.format.specs.Entry.{dimensionCount, nextEntry}
 use Rattle.format.specs.SubBlock.{metadataSize, attachmentSize, dataSize, fixedPart, subBlockBad, pixelsSize, contentsBad, metadataPlace, pixelsPlace, attachmentPlace}
 use Rattle.format.proofs.Below.{none}
-use Rattle.subblocks.specs.Judged.{Listed, Placed, Agreed, Filled}
+use Rattle.subblocks.specs.Judged.{Listed, Placed, CopyAgrees, Filled}
 
 -- the entry's fixed part lies in its file
 pub listed-in : (ds : List ℕ) (e : ℕ) → Listed ds e → e + 32 ≤ length ds
@@ -44,7 +44,7 @@ fixed-in ds e bs q p h = record {
   within = omega (arith, p .within);
 }
 
-pub agreed-in : (ds : List ℕ) (e : ℕ) (bs : List ℕ) (q : ℕ) → Agreed ds e bs q → Fixed ds e bs q
+pub agreed-in : (ds : List ℕ) (e : ℕ) (bs : List ℕ) (q : ℕ) → CopyAgrees ds e bs q → Fixed ds e bs q
 unfolding subBlockBad
 agreed-in ds e bs q a = fixed-in ds e bs q (a .placed) (ltb-false (room bs q) (fixedPart (dimensionCount ds e)) (none _ (a .block) 0))
 

@@ -25,13 +25,13 @@ pub record Placed (ds : List ℕ) (e : ℕ) (bs : List ℕ) (q : ℕ) : Type 0 w
   pub within : q + 32 + room bs q ≤ length bs
 
 -- besides, the fixed part fits and the copy agrees
-pub record Agreed (ds : List ℕ) (e : ℕ) (bs : List ℕ) (q : ℕ) : Type 0 where
+pub record CopyAgrees (ds : List ℕ) (e : ℕ) (bs : List ℕ) (q : ℕ) : Type 0 where
   pub placed : Placed ds e bs q
   pub block : subBlockBad ds e bs q ≡ false
 
 -- besides, metadata, pixels and attachment fit
 pub record Filled (ds : List ℕ) (e : ℕ) (bs : List ℕ) (q : ℕ) : Type 0 where
-  pub agreed : Agreed ds e bs q
+  pub agreed : CopyAgrees ds e bs q
   pub contents : contentsBad ds e bs q ≡ false
 
 -- besides, the attachment's chunks are as they should be

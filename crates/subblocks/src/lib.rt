@@ -13,7 +13,7 @@ ghost use Rattle.format.specs.SubBlock.{fixedPart, copyBad, subBlockBad, pixels
 ghost use Rattle.format.specs.Directory.{attachmentRows};
 ghost use Rattle.format.specs.Masks.{hasChunks};
 ghost use Rattle.format.specs.Records.{metadataSpan, pixelsSpan, attachmentSpan, maskOf, tileAt};
-ghost use Rattle.subblocks.specs.Judged.{Listed, Placed, Agreed, Filled, Judged};
+ghost use Rattle.subblocks.specs.Judged.{Listed, Placed, CopyAgrees, Filled, Judged};
 
 // F, of a number of dimensions.
 fn fixed_part(n: u64) -> u64
@@ -69,7 +69,7 @@ fn is_pixels_size(d: &[u8], e: u64, size: u64) -> bool
 
 // Refusal 16.
 pub fn contents_bad(d: &[u8], e: u64, s: &[u8], q: u64) -> bool
-    requires { ⌜ Agreed (now d) e (now s) q ⌝ }
+    requires { ⌜ CopyAgrees (now d) e (now s) q ⌝ }
     ensures { λ r. ⌜ r ≡ contentsBad (now (d .entry)) e (now (s .entry)) q ⌝ }
 {
     let metadata = fields::u32_at(s, q + 32);
@@ -96,7 +96,7 @@ pub fn contents_bad(d: &[u8], e: u64, s: &[u8], q: u64) -> bool
 
 // Where the metadata begins.
 fn metadata_place(d: &[u8], e: u64, s: &[u8], q: u64) -> u64
-    requires { ⌜ Agreed (now d) e (now s) q ⌝ }
+    requires { ⌜ CopyAgrees (now d) e (now s) q ⌝ }
     ensures { λ r. ⌜ r ≡ metadataPlace (now (d .entry)) e q ⌝ }
 {
     q + 32 + fixed_part(entries::dimension_count(d, e))
@@ -195,7 +195,7 @@ pub fn tile_at(n: u64, d: &[u8], e: u64, s: &[u8], q: u64) -> Tile
 {
     let x = entries::extent_at(d, entries::letter_place(d, e, 88));
     let y = entries::extent_at(d, entries::letter_place(d, e, 89));
-    let m = entries::layer_of(d, e);
+    let m = entries::m_index_of(d, e);
     let metadata = metadata_span(d, e, s, q);
     let pixels = pixels_span(d, e, s, q);
     let attachment = attachment_span(d, e, s, q);

@@ -24,7 +24,7 @@ use Rattle.subblocks.proofs.PartLaws.{filled-in, container-chunks}
 use Rattle.plane.specs.Tiles.{Tile}
 use Rattle.plane.specs.Paint.{bitIn}
 use Rattle.plane.specs.Turns.{turn}
-use Rattle.turns.specs.TileOf.{windowOf, validIn, covers as turnsCovers, tileOf as turnsTile}
+use Rattle.turns.specs.TileOf.{windowOf, validIn, rectCovers, tileOf as turnsTile}
 use Rattle.turns.specs.Turned.{kindOf, TurnRoom, Turned}
 use Rattle.turns.specs.declared.Rect.{Rect}
 use Rattle.turns.specs.declared.Mask.{Mask}
@@ -48,7 +48,7 @@ open-tile bs k e q h i = record {
 same-tile : (bs : List ℕ) (on : Bool) (k e q : ℕ) (m : Mask) (lines : List ℕ)
     → ((x y : ℕ) → validIn m lines x y ≡ (not on || unmasked bs (maskOf bs e bs q) x y))
     → turnsTile (rankOf bs k e) (rectOf (rectangle bs e)) (pixelBytes (pixelType bs e)) (drop (pixelsPlace bs e bs q) bs) m lines ≡ entryTile bs on k e bs q
-unfolding entryTile turnsTile covers turnsCovers
+unfolding entryTile turnsTile covers rectCovers
 same-tile bs on k e q m lines h i = record {
   rank = rankOf bs k e;
   gives = λ u v. covers (rectangle bs e) u v && h (u - rectangle bs e .left) (v - rectangle bs e .top) i;

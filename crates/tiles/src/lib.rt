@@ -122,7 +122,14 @@ fn paint_behind(
 }
 
 // One turn of the entry's tile, its mask aside.
-fn paint_open(target: &mut [u8], map: &mut [u8], s: &[u8], e: u64, w: Rect, quick: bool) -> usize
+fn paint_entry_open(
+    target: &mut [u8],
+    map: &mut [u8],
+    s: &[u8],
+    e: u64,
+    w: Rect,
+    quick: bool,
+) -> usize
     requires { ⌜ PaintRoom (now target) (now map) (now s) e w ⌝ }
     ensures { λ r. ⌜ Painted (now (target .entry)) (now (map .entry)) (now (s .entry)) false e w quick (now (target .exit)) (now (map .exit)) r ⌝ }
 {
@@ -136,7 +143,7 @@ fn paint_open(target: &mut [u8], map: &mut [u8], s: &[u8], e: u64, w: Rect, quic
 }
 
 // One turn of the entry's tile, whose mask is in the chunk at place.
-fn paint_masked(
+fn paint_entry_masked(
     target: &mut [u8],
     map: &mut [u8],
     s: &[u8],
@@ -173,15 +180,15 @@ pub fn paint_entry(
     ensures { λ r. ⌜ Painted (now (target .entry)) (now (map .entry)) (now (s .entry)) on e w quick (now (target .exit)) (now (map .exit)) r ⌝ }
 {
     if !on {
-        return paint_open(target, map, s, e, w, quick);
+        return paint_entry_open(target, map, s, e, w, quick);
     }
     let mask = mask_at(s, e);
     match mask {
         TileMask::Unmasked => {
-            return paint_open(target, map, s, e, w, quick);
+            return paint_entry_open(target, map, s, e, w, quick);
         }
         TileMask::Masked { place, shape } => {
-            return paint_masked(target, map, s, e, w, place, shape, quick);
+            return paint_entry_masked(target, map, s, e, w, place, shape, quick);
         }
     }
 }

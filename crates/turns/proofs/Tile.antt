@@ -16,7 +16,7 @@ use Rattle.plane.specs.Paint.{bit}
 use Rattle.plane.specs.Cuts.{Inside}
 use Rattle.plane.proofs.Tests.{by-bool}
 use Rattle.paint.specs.Row.{validAt}
-use Rattle.turns.specs.TileOf.{windowOf, covers, validIn, tileOf}
+use Rattle.turns.specs.TileOf.{windowOf, rectCovers, validIn, tileOf}
 use Rattle.turns.specs.Turned.{LineOf, Clipped}
 use Rattle.turns.specs.declared.Rect.{Rect}
 use Rattle.turns.specs.declared.Mask.{Mask}
@@ -32,8 +32,8 @@ and-right true y e = e
 and-right false y e = absurd (true≢false (sym e))
 
 -- the test of a rectangle, as facts
-inside : (a : Rect) (u v : ℕ) → covers a u v ≡ true → Inside (windowOf a) u v
-unfolding covers
+inside : (a : Rect) (u v : ℕ) → rectCovers a u v ≡ true → Inside (windowOf a) u v
+unfolding rectCovers
 inside a u v e =
     let h = and-left (leb (a .left) u && ltb u (a .left + a .width)) _ e in
     let g = and-right (leb (a .left) u && ltb u (a .left + a .width)) _ e in
@@ -44,8 +44,8 @@ inside a u v e =
       bottom = ltb-true _ _ (and-right (leb (a .top) v) _ g);
     }
 
-covers-inside : (a : Rect) (u v : ℕ) → Inside (windowOf a) u v → covers a u v ≡ true
-unfolding covers
+covers-inside : (a : Rect) (u v : ℕ) → Inside (windowOf a) u v → rectCovers a u v ≡ true
+unfolding rectCovers
 covers-inside a u v h = rw (le-leb _ _ (h .left), lt-ltb _ _ (h .right), le-leb _ _ (h .top), lt-ltb _ _ (h .bottom))
 
 -- the mask's line
@@ -62,7 +62,7 @@ module _ (rank : ℕ) (w a : Rect) (b : ℕ) (src : List ℕ) (k : Mask) (lines 
   pub off : (p : ℕ) → (Inside (windowOf a) (colOf (windowOf w) p) (rowOf (windowOf w) p) → ⊥) → givesAt (windowOf w) (tileOf rank a b src k lines) p ≡ false
   unfolding tileOf
   off p n =
-      by-bool (covers a (colOf (windowOf w) p) (rowOf (windowOf w) p)) (λ e. absurd (n (inside a _ _ e))) (λ e. rw e)
+      by-bool (rectCovers a (colOf (windowOf w) p) (rowOf (windowOf w) p)) (λ e. absurd (n (inside a _ _ e))) (λ e. rw e)
 
   -- pixel x of row y
   at-col : (y x : ℕ) → x < w .width → colOf (windowOf w) (y * w .width + x) ≡ w .left + x

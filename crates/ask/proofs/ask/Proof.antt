@@ -6,22 +6,13 @@ use borrow.Author.Needs.{needs}
 use Rattle.ask.proofs.ask.Statement.{statement}
 use Rattle.ask.proofs.ask.Tie as tie
 
-window-bad-requires : tie.Need-window-bad-requires
-window-bad-requires c κs = search needs
-
 returns : tie.Need-returns
 unfolding askRows
 returns c = search flags depth 8
 
-pixel-bad-requires : tie.Need-pixel-bad-requires
-pixel-bad-requires c κs = search needs
-
 returns-2 : tie.Need-returns-2
 unfolding askRows
 returns-2 c = search flags depth 8
-
-lent-bad-requires : tie.Need-lent-bad-requires
-lent-bad-requires c κs = sym (c .before .before .before .window-bad .ensures) ∙ c .before .before .if1 .left
 
 returns-3 : tie.Need-returns-3
 unfolding askRows
@@ -35,10 +26,10 @@ pub ask-spec : {M : Type 1} → statement M
 ask-spec =
     tie.close
     (tie.spec
-    window-bad-requires
+    (λ c κs. search needs)
     returns
-    pixel-bad-requires
+    (λ c κs. search needs)
     returns-2
-    lent-bad-requires
+    (λ c κs. sym (c .before .before .before .window-bad .ensures) ∙ c .before .before .if1 .left)
     returns-3
     returns-4)

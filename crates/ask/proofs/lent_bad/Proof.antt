@@ -10,21 +10,12 @@ use borrow.Author.Needs.{needs}
 use Rattle.ask.proofs.lent_bad.Statement.{statement}
 use Rattle.ask.proofs.lent_bad.Tie as tie
 
-mul-area : tie.Need-mul-area
-mul-area c = omega (arith, area-most _ (sides _ (c .pre)))
-
-pixel-bytes-requires : tie.Need-pixel-bytes-requires
-pixel-bytes-requires c κs = search needs
-
 mul-if1 : tie.Need-mul-if1
 mul-if1 c = let k = c .before in let f = pixel-bytes-few (k .args .f .«pixel_type») in omega (arith, bytes-most _ (c .pixel-bytes .result) (area-most _ (sides _ (k .pre))) (omega (arith, f, c .pixel-bytes .ensures)))
 
 returns : tie.Need-returns
 unfolding lentBad
 returns c = any-here _ _ (rw (← c .before .pixel-bytes .ensures) (lt-ltb _ _ (c .if1 .taken)))
-
-add-if2 : tie.Need-add-if2
-add-if2 c = omega (arith, area-most _ (sides _ (c .before .before .pre)))
 
 returns-2 : tie.Need-returns-2
 unfolding lentBad
@@ -39,4 +30,12 @@ returns-3 c =
 
 pub lent-bad-spec : {M : Type 1} → statement M
 lent-bad-spec =
-    tie.close (tie.spec mul-area pixel-bytes-requires mul-if1 returns add-if2 returns-2 returns-3)
+    tie.close
+    (tie.spec
+    (λ c. omega (arith, area-most _ (sides _ (c .pre))))
+    (λ c κs. search needs)
+    mul-if1
+    returns
+    (λ c. omega (arith, area-most _ (sides _ (c .before .before .pre))))
+    returns-2
+    returns-3)

@@ -7,9 +7,6 @@ use borrow.Author.Needs.{needs}
 use Rattle.ask.proofs.pixel_bad.Statement.{statement}
 use Rattle.ask.proofs.pixel_bad.Tie as tie
 
-pixel-bytes-requires : tie.Need-pixel-bytes-requires
-pixel-bytes-requires c κs = search needs
-
 returns : tie.Need-returns
 unfolding pixelBad
 returns c = any-here _ _ (eq-yes _ _ _ (c .before .pixel-bytes .ensures) (c .if1 .taken))
@@ -23,4 +20,4 @@ unfolding pixelBad
 returns-3 c = rw (← c .before .before .pixel-bytes .ensures) (search flags depth 6)
 
 pub pixel-bad-spec : {M : Type 1} → statement M
-pixel-bad-spec = tie.close (tie.spec pixel-bytes-requires returns returns-2 returns-3)
+pixel-bad-spec = tie.close (tie.spec (λ c κs. search needs) returns returns-2 returns-3)

@@ -26,23 +26,11 @@ returns-4 : tie.Need-returns-4
 unfolding windowBad
 returns-4 c = any-later _ _ (any-later _ _ (any-later _ _ (any-here _ _ (lt-ltb _ _ (c .if4 .taken)))))
 
-shifted-of-requires : tie.Need-shifted-of-requires
-shifted-of-requires c κs = search needs
-
-add-if5 : tie.Need-add-if5
-add-if5 c = search needs
-
 returns-5 : tie.Need-returns-5
 unfolding windowBad
 returns-5 c =
     let e : c .before .shifted-of .result ≡ shifted (c .before .before .before .before .before .before .before .args .f .left) = c .before .shifted-of .ensures .0 ∙ ap shifted (read-back (c .before .before .before .before .before .before .before .args .f .left) (c .before .before .struct-told .given .1 .0 .1)) in
     any-later _ _ (any-later _ _ (any-later _ _ (any-later _ _ (any-here _ _ (rw (← e) (lt-ltb _ _ (c .if5 .taken)))))))
-
-shifted-of-requires-2 : tie.Need-shifted-of-requires-2
-shifted-of-requires-2 c κs = search needs
-
-add-if6 : tie.Need-add-if6
-add-if6 c = search needs
 
 returns-6 : tie.Need-returns-6
 unfolding windowBad
@@ -71,10 +59,10 @@ window-bad-spec =
     returns-2
     returns-3
     returns-4
-    shifted-of-requires
-    add-if5
+    (λ c κs. search needs)
+    (λ c. search needs)
     returns-5
-    shifted-of-requires-2
-    add-if6
+    (λ c κs. search needs)
+    (λ c. search needs)
     returns-6
     returns-7)

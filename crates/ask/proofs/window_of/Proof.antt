@@ -6,12 +6,6 @@ use borrow.Author.Needs.{needs}
 use Rattle.ask.proofs.window_of.Statement.{statement}
 use Rattle.ask.proofs.window_of.Tie as tie
 
-shifted-of-requires : tie.Need-shifted-of-requires
-shifted-of-requires c κs = search needs
-
-shifted-of-requires-2 : tie.Need-shifted-of-requires-2
-shifted-of-requires-2 c κs = search needs
-
 returns : tie.Need-returns
 returns c =
     let f = c .before .before .before .before .args .f in
@@ -20,4 +14,4 @@ returns c =
     rw (l, t)
 
 pub window-of-spec : {M : Type 1} → statement M
-window-of-spec = tie.close (tie.spec shifted-of-requires shifted-of-requires-2 returns)
+window-of-spec = tie.close (tie.spec (λ c κs. search needs) (λ c κs. search needs) returns)

@@ -9,12 +9,6 @@ use borrow.Author.Needs.{needs}
 use Rattle.compose.proofs.add_key.Statement.{statement}
 use Rattle.compose.proofs.add_key.Tie as tie
 
-returns : tie.Need-returns
-returns c = record { size = c .before .before .pre .size; most = omega arith; keys-are = rw (eq-eqb _ _ (c .if1 .taken)) }
-
-rectangle-of-requires : tie.Need-rectangle-of-requires
-rectangle-of-requires c κs = c .before .before .pre .listed (c .if1 .left)
-
 meets-window-requires : tie.Need-meets-window-requires
 meets-window-requires c κs = let k = c .before .before .before in let g = read-edges _ _ (windowOf (c .rectangle-of .result)) (k .pre .listed (c .before .if1 .left)) (c .rectangle-of .ensures) in let w = k .pre .edges in (omega (arith, g .right), omega (arith, g .bottom), omega (arith, w .right), omega (arith, w .bottom))
 
@@ -24,12 +18,6 @@ returns-2 c = record { size = c .before .before .before .before .before .pre .si
 rank-of-requires : tie.Need-rank-of-requires
 rank-of-requires c κs = (c .before .before .before .before .before .before .pre .listed (c .before .before .before .before .if1 .left), c .before .before .before .before .before .before .pre .number)
 
-insert-requires : tie.Need-insert-requires
-insert-requires c κs = search needs
-
-add-result : tie.Need-add-result
-add-result c = search needs
-
 returns-3 : tie.Need-returns-3
 returns-3 c = record { size = c .insert .ensures .size-is ∙ c .before .before .before .before .before .before .before .before .pre .size; most = omega arith; keys-are = rw (ne-eqb _ _ (c .before .before .before .before .before .before .if1 .left), ← c .before .before .before .before .before .rectangle-of .ensures, is-true-not _ _ (c .before .before .before .before .meets-window .ensures) (c .before .before .before .if2 .left), ← c .before .rank-of .ensures .0) (c .insert .ensures .keys-are) }
 
@@ -37,11 +25,11 @@ pub add-key-spec : {M : Type 1} → statement M
 add-key-spec =
     tie.close
     (tie.spec
-    returns
-    rectangle-of-requires
+    (λ c. record { size = c .before .before .pre .size; most = omega arith; keys-are = rw (eq-eqb _ _ (c .if1 .taken)) })
+    (λ c κs. c .before .before .pre .listed (c .if1 .left))
     meets-window-requires
     returns-2
     rank-of-requires
-    insert-requires
-    add-result
+    (λ c κs. search needs)
+    (λ c. search needs)
     returns-3)

@@ -17,9 +17,6 @@ Inv-loop s table n w t k₀ k = (k ≤ n) × (first (rowsBelow k (agreeRow s tab
 abbrev μ-loop : tie.MeasureT-loop
 μ-loop s table n w t k₀ k = n - k
 
-loop-holds : tie.Need-loop-holds Inv-loop μ-loop
-loop-holds c = (omega arith, rows-zero _)
-
 mul-e : tie.Need-mul-e Inv-loop μ-loop
 mul-e c = let f = tiled _ (c .before .before .before .pre .0 .accepted) .few in omega (arith, f, c .before .before .before .pre .1 .0)
 
@@ -31,12 +28,6 @@ disagrees-requires c κs = (table-listed _ _ (c .before .before .before .before 
 
 returns : tie.Need-returns Inv-loop μ-loop
 returns c = agree-stop _ _ (c .before .before .before .before .before .before .pre .0) _ (omega (arith, c .before .before .before .before .before .before .pre .1 .0)) _ _ _ _ (c .before .disagrees .ensures) (c .if1 .taken) (c .before .before .before .loop-test .taken) (c .before .before .before .before .loop .inv .1)
-
-add-k : tie.Need-add-k Inv-loop μ-loop
-add-k c = omega arith
-
-loop-less : tie.Need-loop-less Inv-loop μ-loop
-loop-less c = omega arith
 
 loop-again : tie.Need-loop-again Inv-loop μ-loop
 loop-again c = (omega arith, agree-next _ _ (c .before .before .before .before .before .before .pre .0) _ (omega (arith, c .before .before .before .before .before .before .pre .1 .0)) _ _ _ (c .before .disagrees .ensures) (c .if1 .left) (c .before .before .before .before .loop .inv .1))
@@ -50,12 +41,12 @@ agree-spec =
     (tie.spec
     Inv-loop
     μ-loop
-    loop-holds
+    (λ c. (omega arith, rows-zero _))
     mul-e
     element-copy-out-e
     disagrees-requires
     returns
-    add-k
-    loop-less
+    (λ c. omega arith)
+    (λ c. omega arith)
     loop-again
     returns-2)

@@ -9,26 +9,11 @@ use borrow.Author.Needs.{needs}
 use Rattle.compose.proofs.begin.Statement.{statement}
 use Rattle.compose.proofs.begin.Tie as tie
 
-mul-n : tie.Need-mul-n
-mul-n c = search needs
-
-pixel-bytes-requires : tie.Need-pixel-bytes-requires
-pixel-bytes-requires c κs = search needs
-
 fill-requires : tie.Need-fill-requires
 fill-requires c κs =
     let k = c .before .before .before .before .before .before in
     let e = c .before .pixel-bytes .ensures in
     record { bytes = rw e (k .pre .0 .bytes); small = rw e (omega (arith, pixel-bytes-few (k .args .t))); target = rw e (k .pre .0 .target); pixel = k .pre .1 .1 ∙ sym e }
-
-clear-requires : tie.Need-clear-requires
-clear-requires c κs = search needs
-
-same-length : tie.Need-same-length
-same-length c = search needs
-
-same-length-2 : tie.Need-same-length-2
-same-length-2 c = search needs
 
 returns : tie.Need-returns
 returns c =
@@ -39,10 +24,10 @@ pub begin-spec : {M : Type 1} → statement M
 begin-spec =
     tie.close
     (tie.spec
-    mul-n
-    pixel-bytes-requires
+    (λ c. search needs)
+    (λ c κs. search needs)
     fill-requires
-    clear-requires
-    same-length
-    same-length-2
+    (λ c κs. search needs)
+    (λ c. search needs)
+    (λ c. search needs)
     returns)

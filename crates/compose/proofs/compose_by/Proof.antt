@@ -7,32 +7,14 @@ use borrow.Author.Needs.{needs}
 use Rattle.compose.proofs.compose_by.Statement.{statement}
 use Rattle.compose.proofs.compose_by.Tie as tie
 
-examine-requires : tie.Need-examine-requires
-examine-requires c κs = search needs
-
-enum-known-v : tie.Need-enum-known-v
-enum-known-v c = search needs
-
-enum-told : tie.Need-enum-told
-enum-told c = search needs
-
 window-of-requires : tie.Need-window-of-requires
 window-of-requires c κs = call-sides (asked (now (c .before .before .before .before .before .before .before .before .args .s)) (now (c .before .before .before .before .before .before .before .before .args .starts)) (c .before .before .before .before .before .before .before .before .args .any-scene) (c .before .before .before .before .before .before .before .before .args .f) (now (c .before .before .before .before .before .before .before .before .args .background))) _ _ (sym (c .before .before .examine .ensures .verdict-is) ∙ c .enum-told .given .1)
-
-masks-on-requires : tie.Need-masks-on-requires
-masks-on-requires c κs = search needs
 
 paint-plane-requires : tie.Need-paint-plane-requires
 paint-plane-requires c κs = plane-room (asked (now (c .before .before .before .before .before .before .before .before .before .before .before .before .before .args .s)) (now (c .before .before .before .before .before .before .before .before .before .before .before .before .before .args .starts)) (c .before .before .before .before .before .before .before .before .before .before .before .before .before .args .any-scene) (c .before .before .before .before .before .before .before .before .before .before .before .before .before .args .f) (now (c .before .before .before .before .before .before .before .before .before .before .before .before .before .args .background))) _ _ _ _ (c .before .before .before .before .window-of .ensures) (c .before .before .before .before .before .before .before .examine .ensures .selects-so (c .before .before .before .before .before .enum-told .given .1)) (sym (c .before .before .before .before .before .before .before .examine .ensures .verdict-is) ∙ c .before .before .before .before .before .enum-told .given .1)
 
 returns : tie.Need-returns
 returns c = refused _ (asked (now (c .before .before .before .before .before .before .before .before .before .args .s)) (now (c .before .before .before .before .before .before .before .before .before .args .starts)) (c .before .before .before .before .before .before .before .before .before .args .any-scene) (c .before .before .before .before .before .before .before .before .before .args .f) (now (c .before .before .before .before .before .before .before .before .before .args .background))) _ _ _ _ (sym (c .before .before .before .examine .ensures .verdict-is) ∙ c .before .v .given .1)
-
-same-length : tie.Need-same-length
-same-length c = search needs
-
-same-length-2 : tie.Need-same-length-2
-same-length-2 c = search needs
 
 returns-2 : tie.Need-returns-2
 returns-2 c = done (asked (now (c .before .before .before .before .before .before .before .before .before .before .before .before .before .before .before .before .before .before .args .s)) (now (c .before .before .before .before .before .before .before .before .before .before .before .before .before .before .before .before .before .before .args .starts)) (c .before .before .before .before .before .before .before .before .before .before .before .before .before .before .before .before .before .before .args .any-scene) (c .before .before .before .before .before .before .before .before .before .before .before .before .before .before .before .before .before .before .args .f) (now (c .before .before .before .before .before .before .before .before .before .before .before .before .before .before .before .before .before .before .args .background))) _ _ _ _ (c .before .before .before .before .before .before .before .before .before .window-of .ensures) (c .before .before .before .before .before .before .before .before .before .before .before .before .examine .ensures .selects-so (c .before .before .before .before .before .before .before .before .before .before .enum-told .given .1)) (sym (c .before .before .before .before .before .before .before .before .before .before .before .before .examine .ensures .verdict-is) ∙ c .before .before .before .before .before .before .before .before .before .before .enum-told .given .1) _ _ (c .before .before .before .before .before .before .before .before .masks-on .ensures) _ _ _ (c .before .before .before .before .paint-plane .ensures)
@@ -41,13 +23,13 @@ pub compose-by-spec : {M : Type 1} → statement M
 compose-by-spec =
     tie.close
     (tie.spec
-    examine-requires
-    enum-known-v
-    enum-told
+    (λ c κs. search needs)
+    (λ c. search needs)
+    (λ c. search needs)
     window-of-requires
-    masks-on-requires
+    (λ c κs. search needs)
     paint-plane-requires
     returns
-    same-length
-    same-length-2
+    (λ c. search needs)
+    (λ c. search needs)
     returns-2)

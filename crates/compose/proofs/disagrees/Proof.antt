@@ -10,12 +10,6 @@ use borrow.Author.Tests.{eq-eqb, ne-eqb}
 use Rattle.compose.proofs.disagrees.Statement.{statement}
 use Rattle.compose.proofs.disagrees.Tie as tie
 
-returns : tie.Need-returns
-returns c = rw (eq-eqb _ _ (c .if1 .taken))
-
-rectangle-of-requires : tie.Need-rectangle-of-requires
-rectangle-of-requires c κs = c .before .before .pre .0 (c .if1 .left)
-
 meets-window-requires : tie.Need-meets-window-requires
 meets-window-requires c κs = let g = read-edges _ _ (windowOf (c .rectangle-of .result)) (c .before .before .before .pre .0 (c .before .if1 .left)) (c .rectangle-of .ensures) in let w = c .before .before .before .pre .1 in (omega (arith, g .right), omega (arith, g .bottom), omega (arith, w .right), omega (arith, w .bottom))
 
@@ -37,8 +31,8 @@ pub disagrees-spec : {M : Type 1} → statement M
 disagrees-spec =
     tie.close
     (tie.spec
-    returns
-    rectangle-of-requires
+    (λ c. rw (eq-eqb _ _ (c .if1 .taken)))
+    (λ c κs. c .before .before .pre .0 (c .if1 .left))
     meets-window-requires
     returns-2
     add-u32-at

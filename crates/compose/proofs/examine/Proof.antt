@@ -15,15 +15,6 @@ use borrow.Author.Needs.{needs}
 use Rattle.compose.proofs.examine.Statement.{statement}
 use Rattle.compose.proofs.examine.Tie as tie
 
-judge-requires : tie.Need-judge-requires
-judge-requires c κs = search needs
-
-enum-known-v : tie.Need-enum-known-v
-enum-known-v c = search needs
-
-enum-told : tie.Need-enum-told
-enum-told c = search needs
-
 examine-question-requires : tie.Need-examine-question-requires
 examine-question-requires c κs = (sym (c .before .before .before .judge .ensures .answer-is) ∙ c .before .enum-told .given .1, c .before .before .before .before .before .before .pre)
 
@@ -42,4 +33,10 @@ returns-2 c =
 pub examine-spec : {M : Type 1} → statement M
 examine-spec =
     tie.close
-    (tie.spec judge-requires enum-known-v enum-told examine-question-requires returns returns-2)
+    (tie.spec
+    (λ c κs. search needs)
+    (λ c. search needs)
+    (λ c. search needs)
+    examine-question-requires
+    returns
+    returns-2)

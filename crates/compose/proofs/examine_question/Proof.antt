@@ -11,15 +11,6 @@ use borrow.Author.Needs.{needs}
 use Rattle.compose.proofs.examine_question.Statement.{statement}
 use Rattle.compose.proofs.examine_question.Tie as tie
 
-ask-requires : tie.Need-ask-requires
-ask-requires c κs = search needs
-
-enum-known-v : tie.Need-enum-known-v
-enum-known-v c = search needs
-
-enum-told : tie.Need-enum-told
-enum-told c = search needs
-
 examine-tiles-requires : tie.Need-examine-tiles-requires
 examine-tiles-requires c κs = ((c .before .before .before .before .before .before .pre .0, c .before .before .before .before .before .before .pre .1), asked-window _ _ _ _ (sym (c .before .before .before .ask .ensures) ∙ c .before .enum-told .given .1))
 
@@ -36,4 +27,10 @@ returns-2 c =
 pub examine-question-spec : {M : Type 1} → statement M
 examine-question-spec =
     tie.close
-    (tie.spec ask-requires enum-known-v enum-told examine-tiles-requires returns returns-2)
+    (tie.spec
+    (λ c κs. search needs)
+    (λ c. search needs)
+    (λ c. search needs)
+    examine-tiles-requires
+    returns
+    returns-2)

@@ -2,7 +2,6 @@
 use Prim.Native.Nat.{_-_, _≤_}
 use mathlib.Core.Path.{_≡_}
 use native.Mathlib.Omega.{arith}
-use Rattle.format.specs.Scan.{scanOf}
 use Rattle.turns.specs.TileOf.{windowOf}
 use Rattle.judge.proofs.AcceptedFile.{tiled}
 use Rattle.compose.specs.Steps.{Gathered}
@@ -16,9 +15,6 @@ Inv-loop s table n w keys₀ count₀ k₀ keys count k = (k ≤ n) × Gathered 
 abbrev μ-loop : tie.MeasureT-loop
 μ-loop s table n w keys₀ count₀ k₀ keys count k = n - k
 
-loop-holds : tie.Need-loop-holds Inv-loop μ-loop
-loop-holds c = (omega arith, gather-start _ _ _ _ (c .before .pre .1 .1))
-
 mul-e : tie.Need-mul-e Inv-loop μ-loop
 mul-e c = let f = tiled _ (c .before .before .before .pre .0 .accepted) .few in omega (arith, f, c .before .before .before .pre .1 .0 .0)
 
@@ -27,12 +23,6 @@ element-copy-out-e c = let f = tiled _ (c .before .before .before .pre .0 .accep
 
 add-key-requires : tie.Need-add-key-requires Inv-loop μ-loop
 add-key-requires c κs = add-room _ _ _ (c .before .before .before .before .before .pre .0) (c .before .before .before .before .before .pre .1 .0 .1) _ (omega (arith, c .before .before .before .before .before .pre .1 .0 .0)) _ _ (c .before .before .before .loop .inv .1)
-
-add-k : tie.Need-add-k Inv-loop μ-loop
-add-k c = omega arith
-
-loop-less : tie.Need-loop-less Inv-loop μ-loop
-loop-less c = omega arith
 
 loop-again : tie.Need-loop-again Inv-loop μ-loop
 loop-again c = (omega arith, gather-next _ _ _ (c .before .before .before .before .before .before .pre .0) (c .before .before .before .before .before .before .pre .1 .0 .1) _ (omega (arith, c .before .before .before .before .before .before .pre .1 .0 .0)) _ _ (c .before .before .before .before .loop .inv .1) _ _ (c .add-key .ensures))
@@ -46,11 +36,11 @@ gather-spec =
     (tie.spec
     Inv-loop
     μ-loop
-    loop-holds
+    (λ c. (omega arith, gather-start _ _ _ _ (c .before .pre .1 .1)))
     mul-e
     element-copy-out-e
     add-key-requires
-    add-k
-    loop-less
+    (λ c. omega arith)
+    (λ c. omega arith)
     loop-again
     returns)

@@ -1,5 +1,5 @@
 -- `compose::paint_down` meets its contract.
-use Prim.Native.Nat.{_-_, _≤_}
+use Prim.Native.Nat.{_≤_}
 use mathlib.Core.Path.{_≡_}
 use mathlib.Core.List.{reverse}
 use mathlib.Core.Bool.{true}
@@ -19,12 +19,6 @@ Inv-loop target₀ map₀ s table keys count w t on stored₀ i₀ target map st
 abbrev μ-loop : tie.MeasureT-loop
 μ-loop target₀ map₀ s table keys count w t on stored₀ i₀ target map stored i = i
 
-loop-holds : tie.Need-loop-holds Inv-loop μ-loop
-loop-holds c = (omega arith, λ r. down-start _ _ _ _ _ _ _ _ r _ _)
-
-sub-i : tie.Need-sub-i Inv-loop μ-loop
-sub-i c = omega arith
-
 mul-key : tie.Need-mul-key Inv-loop μ-loop
 mul-key c = let f = tiled _ (c .before .before .before .before .before .pre .chosen .accepted) .few in omega (arith, f, c .before .before .before .before .before .pre .gathered .few)
 
@@ -36,9 +30,6 @@ paint-key-requires c κs = key-room _ _ _ _ _ _ _ _ (c .before .before .before .
 
 add-stored : tie.Need-add-stored Inv-loop μ-loop
 add-stored c = omega (arith, stored-small _ _ _ _ _ _ _ _ (c .before .before .before .before .before .before .before .before .before .before .before .before .before .pre) _ _ _ _ _ _ (down-from _ _ _ _ _ _ _ _ (c .before .before .before .before .before .before .before .before .before .before .before .before .before .pre) _ _ _ (c .before .before .before .before .before .before .before .before .loop-test .taken) (c .before .before .before .before .before .before .before .before .before .loop .inv .0) _ _ _ _ _ _ (c .before .before .before .before .paint-key .ensures) (c .before .before .before .before .before .before .before .before .before .loop .inv .1 (c .before .before .before .before .before .before .before .before .before .before .before .before .before .pre))))
-
-loop-less : tie.Need-loop-less Inv-loop μ-loop
-loop-less c = omega arith
 
 loop-again : tie.Need-loop-again Inv-loop μ-loop
 loop-again c = (omega arith, λ r. down-from _ _ _ _ _ _ _ _ r _ _ _ (c .before .before .before .before .before .before .before .before .loop-test .taken) (c .before .before .before .before .before .before .before .before .before .loop .inv .0) _ _ _ _ _ _ (c .before .before .before .before .paint-key .ensures) (c .before .before .before .before .before .before .before .before .before .loop .inv .1 r))
@@ -61,13 +52,13 @@ paint-down-spec =
     (tie.spec
     Inv-loop
     μ-loop
-    loop-holds
-    sub-i
+    (λ c. (omega arith, λ r. down-start _ _ _ _ _ _ _ _ r _ _))
+    (λ c. omega arith)
     mul-key
     element-copy-out-key
     paint-key-requires
     add-stored
-    loop-less
+    (λ c. omega arith)
     loop-again
     same-length
     same-length-2

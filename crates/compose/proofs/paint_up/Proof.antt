@@ -18,9 +18,6 @@ Inv-loop target₀ map₀ s table keys count w t on stored₀ i₀ target map st
 abbrev μ-loop : tie.MeasureT-loop
 μ-loop target₀ map₀ s table keys count w t on stored₀ i₀ target map stored i = count - i
 
-loop-holds : tie.Need-loop-holds Inv-loop μ-loop
-loop-holds c = (omega arith, λ r. up-start _ _ _ _ _ _ _ _ r _ _)
-
 mul-key : tie.Need-mul-key Inv-loop μ-loop
 mul-key c = let f = tiled _ (c .before .before .before .before .before .pre .chosen .accepted) .few in omega (arith, f, c .before .before .before .before .before .pre .gathered .few)
 
@@ -32,12 +29,6 @@ paint-key-requires c κs = key-room _ _ _ _ _ _ _ _ (c .before .before .before .
 
 add-stored : tie.Need-add-stored Inv-loop μ-loop
 add-stored c = omega (arith, stored-small _ _ _ _ _ _ _ _ (c .before .before .before .before .before .before .before .before .before .before .before .before .before .pre) _ _ _ _ _ _ (up-next _ _ _ _ _ _ _ _ (c .before .before .before .before .before .before .before .before .before .before .before .before .before .pre) _ _ _ (c .before .before .before .before .before .before .before .before .loop-test .taken) _ _ _ _ _ _ (c .before .before .before .before .paint-key .ensures) (c .before .before .before .before .before .before .before .before .before .loop .inv .1 (c .before .before .before .before .before .before .before .before .before .before .before .before .before .pre))))
-
-add-i : tie.Need-add-i Inv-loop μ-loop
-add-i c = omega arith
-
-loop-less : tie.Need-loop-less Inv-loop μ-loop
-loop-less c = omega arith
 
 loop-again : tie.Need-loop-again Inv-loop μ-loop
 loop-again c = (omega arith, λ r. up-next _ _ _ _ _ _ _ _ r _ _ _ (c .before .before .before .before .before .before .before .before .loop-test .taken) _ _ _ _ _ _ (c .before .before .before .before .paint-key .ensures) (c .before .before .before .before .before .before .before .before .before .loop .inv .1 r))
@@ -60,13 +51,13 @@ paint-up-spec =
     (tie.spec
     Inv-loop
     μ-loop
-    loop-holds
+    (λ c. (omega arith, λ r. up-start _ _ _ _ _ _ _ _ r _ _))
     mul-key
     element-copy-out-key
     paint-key-requires
     add-stored
-    add-i
-    loop-less
+    (λ c. omega arith)
+    (λ c. omega arith)
     loop-again
     same-length
     same-length-2

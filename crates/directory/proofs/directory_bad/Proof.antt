@@ -5,18 +5,9 @@ use borrow.Author.Needs.{needs}
 use Rattle.directory.proofs.directory_bad.Statement.{statement}
 use Rattle.directory.proofs.directory_bad.Tie as tie
 
-room-at-requires : tie.Need-room-at-requires
-room-at-requires c κs = search needs
-
 returns : tie.Need-returns
 unfolding directoryBad
 returns c = search flags depth 8
-
-add-u32-at : tie.Need-add-u32-at
-add-u32-at c = search needs
-
-u32-at-requires : tie.Need-u32-at-requires
-u32-at-requires c κs = search needs
 
 returns-2 : tie.Need-returns-2
 unfolding directoryBad entryCount
@@ -33,4 +24,11 @@ returns-4 c = search flags depth 8
 pub directory-bad-spec : {M : Type 1} → statement M
 directory-bad-spec =
     tie.close
-    (tie.spec room-at-requires returns add-u32-at u32-at-requires returns-2 returns-3 returns-4)
+    (tie.spec
+    (λ c κs. search needs)
+    returns
+    (λ c. search needs)
+    (λ c κs. search needs)
+    returns-2
+    returns-3
+    returns-4)

@@ -8,17 +8,8 @@ use borrow.Author.Needs.{needs}
 use Rattle.directory.proofs.judge_block.Statement.{statement}
 use Rattle.directory.proofs.judge_block.Tie as tie
 
-judge-sub-block-requires : tie.Need-judge-sub-block-requires
-judge-sub-block-requires c κs = search needs
-
-enum-known-v : tie.Need-enum-known-v
-enum-known-v c = search needs
-
-enum-told : tie.Need-enum-told
-enum-told c = search needs
-
-judge-chunks-requires : tie.Need-judge-chunks-requires
-judge-chunks-requires c κs =
+judge-chunks-once-requires : tie.Need-judge-chunks-once-requires
+judge-chunks-once-requires c κs =
     let p = c .before .before .before .before .before .pre in
     record {
       filled = filled _ _ _ (p .placed) (sym (c .before .before .before .judge-sub-block .ensures) ∙ c .before .enum-told .given .1);
@@ -36,15 +27,15 @@ returns-2 : tie.Need-returns-2
 returns-2 c =
     let a = c .before .before .before .before .before .before .args in
     let bs = now (a .s) in
-    answered-next bs _ _ _ (subBlockRows bs (a .e) bs (a .q)) (attachmentRows bs (a .e) bs (a .q)) (c .before .before .before .before .judge-sub-block .ensures) (c .before .before .enum-told .given .1) (c .judge-chunks .ensures .answered)
+    answered-next bs _ _ _ (subBlockRows bs (a .e) bs (a .q)) (attachmentRows bs (a .e) bs (a .q)) (c .before .before .before .before .judge-sub-block .ensures) (c .before .before .enum-told .given .1) (c .judge-chunks-once .ensures .answered)
 
 pub judge-block-spec : {M : Type 1} → statement M
 judge-block-spec =
     tie.close
     (tie.spec
-    judge-sub-block-requires
-    enum-known-v
-    enum-told
-    judge-chunks-requires
+    (λ c κs. search needs)
+    (λ c. search needs)
+    (λ c. search needs)
+    judge-chunks-once-requires
     returns
     returns-2)

@@ -21,23 +21,11 @@ u64-at-requires : tie.Need-u64-at-requires
 unfolding nextEntry
 u64-at-requires c κs = omega arith
 
-slice-aggregate-index-as : tie.Need-slice-aggregate-index-as
-slice-aggregate-index-as c = search needs
-
-index-as-requires : tie.Need-index-as-requires
-index-as-requires c κs = search needs
-
 judge-tile-requires : tie.Need-judge-tile-requires
 unfolding filePosition nameSubBlock
 judge-tile-requires c κs =
     let p = c .before .before .before .before .pre in
     (p .1 .1, named-is _ _ _ _ (c .before .before .u64-at .ensures) (c .index-as .ensures) _ _ (p .0))
-
-enum-known-v : tie.Need-enum-known-v
-enum-known-v c = search needs
-
-enum-told : tie.Need-enum-told
-enum-told c = search needs
 
 judge-block-requires : tie.Need-judge-block-requires
 unfolding filePosition nameSubBlock
@@ -67,11 +55,11 @@ judge-body-spec =
     (tie.spec
     add-u64-at
     u64-at-requires
-    slice-aggregate-index-as
-    index-as-requires
+    (λ c. search needs)
+    (λ c κs. search needs)
     judge-tile-requires
-    enum-known-v
-    enum-told
+    (λ c. search needs)
+    (λ c. search needs)
     judge-block-requires
     returns
     returns-2)

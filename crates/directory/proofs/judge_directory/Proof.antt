@@ -11,9 +11,6 @@ use borrow.Author.Needs.{needs}
 use Rattle.directory.proofs.judge_directory.Statement.{statement}
 use Rattle.directory.proofs.judge_directory.Tie as tie
 
-u64-at-requires : tie.Need-u64-at-requires
-u64-at-requires c κs = search needs
-
 directory-bad-requires : tie.Need-directory-bad-requires
 unfolding directoryPosition
 directory-bad-requires c κs = rw (c .u64-at .ensures) (c .before .before .pre .1 .1)
@@ -42,7 +39,7 @@ pub judge-directory-spec : {M : Type 1} → statement M
 judge-directory-spec =
     tie.close
     (tie.spec
-    u64-at-requires
+    (λ c κs. search needs)
     directory-bad-requires
     returns
     add-u32-at

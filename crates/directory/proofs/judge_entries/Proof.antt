@@ -21,23 +21,14 @@ add-e : tie.Need-add-e Inv-loop μ-loop
 unfolding roomEnd
 add-e c = omega arith
 
-loop-holds : tie.Need-loop-holds Inv-loop μ-loop
-loop-holds c = (entries-start _ _ _ (c .before .pre .1 .1 .0) (c .before .pre .1 .1 .1), none-marked _)
-
 judge-entry-requires : tie.Need-judge-entry-requires Inv-loop μ-loop
 judge-entry-requires c κs =
     let p = c .before .before .before .before .pre in
     let i = c .before .before .loop .inv in
     (p .0, (i .1, (p .1 .0, i .0 .within)))
 
-enum-known-v : tie.Need-enum-known-v Inv-loop μ-loop
-enum-known-v c = search needs
-
 returns : tie.Need-returns Inv-loop μ-loop
 returns c = entries-stop _ _ _ _ _ (c .before .before .before .before .before .before .loop .inv .0) (c .before .before .before .before .before .before .before .before .pre .1 .0) _ (c .before .before .before .judge-entry .ensures .verdict-is) (c .before .before .before .before .before .loop-test .taken) _ _ (c .before .v .given .1)
-
-enum-told : tie.Need-enum-told Inv-loop μ-loop
-enum-told c = search needs
 
 add-e-2 : tie.Need-add-e-2 Inv-loop μ-loop
 unfolding nextEntry
@@ -47,27 +38,15 @@ dimension-count-requires : tie.Need-dimension-count-requires Inv-loop μ-loop
 unfolding nextEntry
 dimension-count-requires c κs = let h = entry-next _ _ _ (c .before .before .before .before .before .before .before .pre .1 .0) (sym (c .before .before .judge-entry .ensures .verdict-is) ∙ c .enum-told .given .1) in omega (arith, h .entry)
 
-mul-e : tie.Need-mul-e Inv-loop μ-loop
-mul-e c = omega arith
-
 add-e-3 : tie.Need-add-e-3 Inv-loop μ-loop
 unfolding nextEntry
 add-e-3 c = let h = entry-next _ _ _ (c .before .before .before .before .before .before .before .before .pre .1 .0) (sym (c .before .before .before .judge-entry .ensures .verdict-is) ∙ c .before .enum-told .given .1) in omega (arith, h .entry, c .dimension-count .ensures .0)
-
-add-k : tie.Need-add-k Inv-loop μ-loop
-add-k c = omega arith
-
-loop-less : tie.Need-loop-less Inv-loop μ-loop
-loop-less c = omega arith
 
 loop-again : tie.Need-loop-again Inv-loop μ-loop
 unfolding nextEntry
 loop-again c =
     let j = c .before .before .before .judge-entry .ensures in
     (rw (c .dimension-count .ensures .0) (entries-next _ _ _ _ _ (c .before .before .before .before .before .before .loop .inv .0) (c .before .before .before .before .before .before .before .before .pre .1 .0) _ (j .verdict-is) (c .before .before .before .before .before .loop-test .taken) (c .before .enum-told .given .1)), j .marked)
-
-returns-2 : tie.Need-returns-2 Inv-loop μ-loop
-returns-2 c = entries-end _ _ _ _ _ (c .before .loop .inv .0) (c .loop-test .left)
 
 pub judge-entries-spec : {M : Type 1} → statement M
 judge-entries-spec =
@@ -76,16 +55,16 @@ judge-entries-spec =
     Inv-loop
     μ-loop
     add-e
-    loop-holds
+    (λ c. (entries-start _ _ _ (c .before .pre .1 .1 .0) (c .before .pre .1 .1 .1), none-marked _))
     judge-entry-requires
-    enum-known-v
+    (λ c. search needs)
     returns
-    enum-told
+    (λ c. search needs)
     add-e-2
     dimension-count-requires
-    mul-e
+    (λ c. omega arith)
     add-e-3
-    add-k
-    loop-less
+    (λ c. omega arith)
+    (λ c. omega arith)
     loop-again
-    returns-2)
+    (λ c. entries-end _ _ _ _ _ (c .before .loop .inv .0) (c .loop-test .left)))

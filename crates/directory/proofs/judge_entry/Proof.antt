@@ -11,15 +11,6 @@ use borrow.Author.Needs.{needs}
 use Rattle.directory.proofs.judge_entry.Statement.{statement}
 use Rattle.directory.proofs.judge_entry.Tie as tie
 
-judge-head-requires : tie.Need-judge-head-requires
-judge-head-requires c κs = search needs
-
-enum-known-v : tie.Need-enum-known-v
-enum-known-v c = search needs
-
-enum-told : tie.Need-enum-told
-enum-told c = search needs
-
 judge-body-requires : tie.Need-judge-body-requires
 judge-body-requires c κs =
     let p = c .before .before .before .before .before .pre in
@@ -47,4 +38,10 @@ returns-2 c =
 pub judge-entry-spec : {M : Type 1} → statement M
 judge-entry-spec =
     tie.close
-    (tie.spec judge-head-requires enum-known-v enum-told judge-body-requires returns returns-2)
+    (tie.spec
+    (λ c κs. search needs)
+    (λ c. search needs)
+    (λ c. search needs)
+    judge-body-requires
+    returns
+    returns-2)

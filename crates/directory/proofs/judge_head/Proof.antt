@@ -7,9 +7,6 @@ use borrow.Author.Needs.{needs}
 use Rattle.directory.proofs.judge_head.Statement.{statement}
 use Rattle.directory.proofs.judge_head.Tie as tie
 
-room-end-requires : tie.Need-room-end-requires
-room-end-requires c κs = search needs
-
 add-if1 : tie.Need-add-if1
 unfolding roomEnd
 add-if1 c = omega arith
@@ -26,15 +23,9 @@ returns-2 : tie.Need-returns-2
 unfolding headRows
 returns-2 c = search flags depth 8
 
-add-if3 : tie.Need-add-if3
-add-if3 c = search needs
-
 dimension-count-requires : tie.Need-dimension-count-requires
 unfolding roomEnd
 dimension-count-requires c κs = omega arith
-
-mul-if3 : tie.Need-mul-if3
-mul-if3 c = search needs
 
 add-if3-2 : tie.Need-add-if3-2
 unfolding roomEnd
@@ -52,14 +43,14 @@ pub judge-head-spec : {M : Type 1} → statement M
 judge-head-spec =
     tie.close
     (tie.spec
-    room-end-requires
+    (λ c κs. search needs)
     add-if1
     returns
     head-bad-requires
     returns-2
-    add-if3
+    (λ c. search needs)
     dimension-count-requires
-    mul-if3
+    (λ c. search needs)
     add-if3-2
     returns-3
     returns-4)

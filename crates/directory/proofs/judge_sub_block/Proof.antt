@@ -6,9 +6,6 @@ use borrow.Author.Needs.{needs}
 use Rattle.directory.proofs.judge_sub_block.Statement.{statement}
 use Rattle.directory.proofs.judge_sub_block.Tie as tie
 
-sub-block-bad-requires : tie.Need-sub-block-bad-requires
-sub-block-bad-requires c κs = search needs
-
 returns : tie.Need-returns
 unfolding subBlockRows
 returns c = search flags depth 8
@@ -25,5 +22,4 @@ unfolding subBlockRows
 returns-3 c = search flags depth 8
 
 pub judge-sub-block-spec : {M : Type 1} → statement M
-judge-sub-block-spec =
-    tie.close (tie.spec sub-block-bad-requires returns contents-bad-requires returns-2 returns-3)
+judge-sub-block-spec = tie.close (tie.spec (λ c κs. search needs) returns contents-bad-requires returns-2 returns-3)

@@ -8,9 +8,6 @@ use borrow.Author.Needs.{needs}
 use Rattle.directory.proofs.judge_tile.Statement.{statement}
 use Rattle.directory.proofs.judge_tile.Tie as tie
 
-dimensions-bad-requires : tie.Need-dimensions-bad-requires
-dimensions-bad-requires c κs = search needs
-
 returns : tie.Need-returns
 unfolding tileRows
 returns c = cond-true _ _ _ _ (is-true _ _ (c .before .dimensions-bad .ensures) (c .if1 .taken)) refl
@@ -22,9 +19,6 @@ add-u32-at c = omega arith
 u32-at-requires : tie.Need-u32-at-requires
 unfolding nextEntry
 u32-at-requires c κs = omega arith
-
-pixel-bytes-requires : tie.Need-pixel-bytes-requires
-pixel-bytes-requires c κs = search needs
 
 returns-2 : tie.Need-returns-2
 unfolding tileRows pixelType compression entryPart
@@ -85,11 +79,11 @@ pub judge-tile-spec : {M : Type 1} → statement M
 judge-tile-spec =
     tie.close
     (tie.spec
-    dimensions-bad-requires
+    (λ c κs. search needs)
     returns
     add-u32-at
     u32-at-requires
-    pixel-bytes-requires
+    (λ c κs. search needs)
     returns-2
     add-u32-at-2
     u32-at-requires-2

@@ -8,9 +8,6 @@ use Rattle.judge.proofs.AcceptedFile.{tiled, attached}
 use Rattle.judge.proofs.attachment_count.Statement.{statement}
 use Rattle.judge.proofs.attachment_count.Tie as tie
 
-u64-at-requires : tie.Need-u64-at-requires
-u64-at-requires c κs = omega (arith, tiled _ (c .before .pre) .long)
-
 returns : tie.Need-returns
 unfolding attachmentCount attachmentDirectoryPosition
 returns c = rw (← c .before .u64-at .ensures, eq-eqb _ _ (c .if1 .taken))
@@ -29,4 +26,10 @@ returns-2 c = rw (← c .before .before .u64-at .ensures, ne-eqb _ _ (c .before 
 
 pub attachment-count-spec : {M : Type 1} → statement M
 attachment-count-spec =
-    tie.close (tie.spec u64-at-requires returns add-u32-at u32-at-requires returns-2)
+    tie.close
+    (tie.spec
+    (λ c κs. omega (arith, tiled _ (c .before .pre) .long))
+    returns
+    add-u32-at
+    u32-at-requires
+    returns-2)

@@ -18,15 +18,6 @@ use borrow.Author.Needs.{needs}
 use Rattle.judge.proofs.judge.Statement.{statement}
 use Rattle.judge.proofs.judge.Tie as tie
 
-walk-requires : tie.Need-walk-requires
-walk-requires c κs = search needs
-
-enum-known-v : tie.Need-enum-known-v
-enum-known-v c = search needs
-
-enum-told : tie.Need-enum-told
-enum-told c = search needs
-
 judge-walked-requires : tie.Need-judge-walked-requires
 judge-walked-requires c κs = (filled _ _ _ _ (length-replicate {A = ℕ} 8192 0) (c .before .before .before .walk .ensures) (c .before .enum-told .given .1), file-long _ (sym (c .before .before .before .walk .ensures .verdict-is) ∙ c .before .enum-told .given .1))
 
@@ -45,4 +36,10 @@ returns-2 c =
 pub judge-spec : {M : Type 1} → statement M
 judge-spec =
     tie.close
-    (tie.spec walk-requires enum-known-v enum-told judge-walked-requires returns returns-2)
+    (tie.spec
+    (λ c κs. search needs)
+    (λ c. search needs)
+    (λ c. search needs)
+    judge-walked-requires
+    returns
+    returns-2)

@@ -6,18 +6,6 @@ use borrow.Author.Needs.{needs}
 use Rattle.judge.proofs.judge_annexes.Statement.{statement}
 use Rattle.judge.proofs.judge_annexes.Tie as tie
 
-judge-metadata-requires : tie.Need-judge-metadata-requires
-judge-metadata-requires c κs = search needs
-
-enum-known-v : tie.Need-enum-known-v
-enum-known-v c = search needs
-
-enum-told : tie.Need-enum-told
-enum-told c = search needs
-
-judge-attachments-requires : tie.Need-judge-attachments-requires
-judge-attachments-requires c κs = search needs
-
 returns : tie.Need-returns
 returns c =
     let bs = now (c .before .before .before .before .before .args .s) in
@@ -32,9 +20,9 @@ pub judge-annexes-spec : {M : Type 1} → statement M
 judge-annexes-spec =
     tie.close
     (tie.spec
-    judge-metadata-requires
-    enum-known-v
-    enum-told
-    judge-attachments-requires
+    (λ c κs. search needs)
+    (λ c. search needs)
+    (λ c. search needs)
+    (λ c κs. search needs)
     returns
     returns-2)

@@ -9,18 +9,6 @@ use borrow.Author.Needs.{needs}
 use Rattle.judge.proofs.judge_named.Statement.{statement}
 use Rattle.judge.proofs.judge_named.Tie as tie
 
-judge-directory-requires : tie.Need-judge-directory-requires
-judge-directory-requires c κs = search needs
-
-enum-known-v : tie.Need-enum-known-v
-enum-known-v c = search needs
-
-enum-told : tie.Need-enum-told
-enum-told c = search needs
-
-judge-annexes-requires : tie.Need-judge-annexes-requires
-judge-annexes-requires c κs = search needs
-
 returns : tie.Need-returns
 returns c =
     let bs = now (c .before .before .before .before .before .args .s) in
@@ -35,9 +23,9 @@ pub judge-named-spec : {M : Type 1} → statement M
 judge-named-spec =
     tie.close
     (tie.spec
-    judge-directory-requires
-    enum-known-v
-    enum-told
-    judge-annexes-requires
+    (λ c κs. search needs)
+    (λ c. search needs)
+    (λ c. search needs)
+    (λ c κs. search needs)
     returns
     returns-2)

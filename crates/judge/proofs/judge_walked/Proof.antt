@@ -12,15 +12,6 @@ use borrow.Author.Needs.{needs}
 use Rattle.judge.proofs.judge_walked.Statement.{statement}
 use Rattle.judge.proofs.judge_walked.Tie as tie
 
-judge-file-requires : tie.Need-judge-file-requires
-judge-file-requires c κs = search needs
-
-enum-known-v : tie.Need-enum-known-v
-enum-known-v c = search needs
-
-enum-told : tie.Need-enum-told
-enum-told c = search needs
-
 judge-named-requires : tie.Need-judge-named-requires
 judge-named-requires c κs = (c .before .before .before .before .pre .0, (c .before .before .before .before .pre .1, located _ (sym (c .before .before .judge-file .ensures) ∙ c .enum-told .given .1)))
 
@@ -37,4 +28,10 @@ returns-2 c =
 pub judge-walked-spec : {M : Type 1} → statement M
 judge-walked-spec =
     tie.close
-    (tie.spec judge-file-requires enum-known-v enum-told judge-named-requires returns returns-2)
+    (tie.spec
+    (λ c κs. search needs)
+    (λ c. search needs)
+    (λ c. search needs)
+    judge-named-requires
+    returns
+    returns-2)

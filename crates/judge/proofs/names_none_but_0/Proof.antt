@@ -9,12 +9,9 @@ returns : tie.Need-returns
 unfolding namesNoneBut0
 returns c = rw (eq-eqb _ _ (c .if1 .taken))
 
-names-none-requires : tie.Need-names-none-requires
-names-none-requires c κs = search needs
-
 returns-2 : tie.Need-returns-2
 unfolding namesNoneBut0
 returns-2 c = rw (ne-eqb _ _ (c .before .if1 .left)) (c .names-none .ensures)
 
 pub names-none-but-0-spec : {M : Type 1} → statement M
-names-none-but-0-spec = tie.close (tie.spec returns names-none-requires returns-2)
+names-none-but-0-spec = tie.close (tie.spec returns (λ c κs. search needs) returns-2)

@@ -6,9 +6,6 @@ use Rattle.judge.proofs.AcceptedFile.{tiled}
 use Rattle.judge.proofs.tile_count.Statement.{statement}
 use Rattle.judge.proofs.tile_count.Tie as tie
 
-u64-at-requires : tie.Need-u64-at-requires
-u64-at-requires c κs = omega (arith, tiled _ (c .before .pre) .long)
-
 add-u32-at : tie.Need-add-u32-at
 unfolding directoryPosition
 add-u32-at c = let t = tiled _ (c .before .before .pre) in omega (arith, t .entries, t .small, c .u64-at .ensures)
@@ -22,4 +19,5 @@ unfolding tileCount entryCount directoryPosition
 returns c = rw (← c .before .u64-at .ensures) (c .u32-at .ensures .0)
 
 pub tile-count-spec : {M : Type 1} → statement M
-tile-count-spec = tie.close (tie.spec u64-at-requires add-u32-at u32-at-requires returns)
+tile-count-spec =
+    tie.close (tie.spec (λ c κs. omega (arith, tiled _ (c .before .pre) .long)) add-u32-at u32-at-requires returns)

@@ -4,18 +4,6 @@ use Rattle.listing.specs.Summary.{boundsOf}
 use Rattle.listing.proofs.bounds_of.Statement.{statement}
 use Rattle.listing.proofs.bounds_of.Tie as tie
 
-unshifted-requires : tie.Need-unshifted-requires
-unshifted-requires c κs = c .before .pre .left-fits (c .if1 .taken)
-
-unshifted-requires-2 : tie.Need-unshifted-requires-2
-unshifted-requires-2 c κs = c .before .before .pre .top-fits (c .before .if1 .taken)
-
-unshifted-requires-3 : tie.Need-unshifted-requires-3
-unshifted-requires-3 c κs = c .before .before .before .pre .right-fits
-
-unshifted-requires-4 : tie.Need-unshifted-requires-4
-unshifted-requires-4 c κs = c .before .before .before .before .pre .bottom-fits
-
 returns : tie.Need-returns
 unfolding boundsOf
 returns c =
@@ -29,9 +17,9 @@ pub bounds-of-spec : {M : Type 1} → statement M
 bounds-of-spec =
     tie.close
     (tie.spec
-    unshifted-requires
-    unshifted-requires-2
-    unshifted-requires-3
-    unshifted-requires-4
+    (λ c κs. c .before .pre .left-fits (c .if1 .taken))
+    (λ c κs. c .before .before .pre .top-fits (c .before .if1 .taken))
+    (λ c κs. c .before .before .before .pre .right-fits)
+    (λ c κs. c .before .before .before .before .pre .bottom-fits)
     returns
     returns-2)

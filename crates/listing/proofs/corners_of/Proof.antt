@@ -15,9 +15,6 @@ Inv-loop s n c₀ e₀ k₀ c e k = Boxing s n c e k
 abbrev μ-loop : tie.MeasureT-loop
 μ-loop s n c₀ e₀ k₀ c e k = n - k
 
-u64-at-requires : tie.Need-u64-at-requires Inv-loop μ-loop
-u64-at-requires c κs = let t = tiled _ (c .before .pre .0) in omega (arith, t .long)
-
 add-e : tie.Need-add-e Inv-loop μ-loop
 unfolding directoryPosition
 add-e c = let t = tiled _ (c .before .before .pre .0) in omega (arith, t .entries, c .u64-at .ensures)
@@ -37,25 +34,13 @@ dimension-count-requires : tie.Need-dimension-count-requires Inv-loop μ-loop
 unfolding nextEntry
 dimension-count-requires c κs = let b = boxing-here _ _ _ _ _ (c .before .before .loop .inv) (c .before .loop-test .taken) (c .before .before .before .before .before .pre .0) (c .before .before .before .before .before .pre .1) in omega (arith, b .entry)
 
-mul-e : tie.Need-mul-e Inv-loop μ-loop
-mul-e c = omega arith
-
 add-e-3 : tie.Need-add-e-3 Inv-loop μ-loop
 unfolding nextEntry
 add-e-3 c = let b = boxing-here _ _ _ _ _ (c .before .before .before .loop .inv) (c .before .before .loop-test .taken) (c .before .before .before .before .before .before .pre .0) (c .before .before .before .before .before .before .pre .1) in omega (arith, b .entry, c .dimension-count .ensures .0)
 
-add-k : tie.Need-add-k Inv-loop μ-loop
-add-k c = omega arith
-
-loop-less : tie.Need-loop-less Inv-loop μ-loop
-loop-less c = omega arith
-
 loop-again : tie.Need-loop-again Inv-loop μ-loop
 unfolding nextEntry
 loop-again c = rw (c .dimension-count .ensures .0) (boxing-next _ _ _ _ _ (c .before .before .before .loop .inv) (c .before .before .loop-test .taken) _ (c .before .with-tile .ensures))
-
-returns : tie.Need-returns Inv-loop μ-loop
-returns c = boxing-end _ _ _ _ _ (c .before .loop .inv) (c .loop-test .left)
 
 pub corners-of-spec : {M : Type 1} → statement M
 corners-of-spec =
@@ -63,15 +48,15 @@ corners-of-spec =
     (tie.spec
     Inv-loop
     μ-loop
-    u64-at-requires
+    (λ c κs. let t = tiled _ (c .before .pre .0) in omega (arith, t .long))
     add-e
     loop-holds
     with-tile-requires
     add-e-2
     dimension-count-requires
-    mul-e
+    (λ c. omega arith)
     add-e-3
-    add-k
-    loop-less
+    (λ c. omega arith)
+    (λ c. omega arith)
     loop-again
-    returns)
+    (λ c. boxing-end _ _ _ _ _ (c .before .loop .inv) (c .loop-test .left)))

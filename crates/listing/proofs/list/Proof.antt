@@ -5,27 +5,6 @@ use borrow.Author.Needs.{needs}
 use Rattle.listing.proofs.list.Statement.{statement}
 use Rattle.listing.proofs.list.Tie as tie
 
-refusal-text-requires : tie.Need-refusal-text-requires
-refusal-text-requires c κs = search needs
-
-returns : tie.Need-returns
-returns c = listing-long _ _ (c .before .if1 .taken) (c .refusal-text .ensures)
-
-judge-requires : tie.Need-judge-requires
-judge-requires c κs = search needs
-
-enum-known-v : tie.Need-enum-known-v
-enum-known-v c = search needs
-
-refusal-text-requires-2 : tie.Need-refusal-text-requires-2
-refusal-text-requires-2 c κs = search needs
-
-enum-told : tie.Need-enum-told
-enum-told c = search needs
-
-figures-of-requires : tie.Need-figures-of-requires
-figures-of-requires c κs = accepted (c .before .before .judge .ensures) (c .enum-told .given .1)
-
 figures-text-requires : tie.Need-figures-text-requires
 figures-text-requires c κs = figures-held _ _ (c .figures-of .ensures) (accepted (c .before .before .before .judge .ensures) (c .before .enum-told .given .1))
 
@@ -39,13 +18,13 @@ pub list-spec : {M : Type 1} → statement M
 list-spec =
     tie.close
     (tie.spec
-    refusal-text-requires
-    returns
-    judge-requires
-    enum-known-v
-    refusal-text-requires-2
-    enum-told
-    figures-of-requires
+    (λ c κs. search needs)
+    (λ c. listing-long _ _ (c .before .if1 .taken) (c .refusal-text .ensures))
+    (λ c κs. search needs)
+    (λ c. search needs)
+    (λ c κs. search needs)
+    (λ c. search needs)
+    (λ c κs. accepted (c .before .before .judge .ensures) (c .enum-told .given .1))
     figures-text-requires
     returns-2
     returns-3)

@@ -6,16 +6,10 @@ use borrow.Author.Needs.{needs}
 use Rattle.listing.proofs.put_coordinate.Statement.{statement}
 use Rattle.listing.proofs.put_coordinate.Tie as tie
 
-push-requires : tie.Need-push-requires
-push-requires c κs = search needs
-
-put-signed-requires : tie.Need-put-signed-requires
-put-signed-requires c κs = search needs
-
 returns : tie.Need-returns
 returns c =
     let room = signed-room _ _ _ (c .put-signed .ensures) (c .before .before .pre .1) in
     (appended-both _ _ _ _ _ (c .before .push .ensures) (c .put-signed .ensures), omega (arith, room, c .before .push .ensures .length-is))
 
 pub put-coordinate-spec : {M : Type 1} → statement M
-put-coordinate-spec = tie.close (tie.spec push-requires put-signed-requires returns)
+put-coordinate-spec = tie.close (tie.spec (λ c κs. search needs) (λ c κs. search needs) returns)

@@ -7,9 +7,6 @@ use borrow.Author.Needs.{needs}
 use Rattle.listing.proofs.put_corners.Statement.{statement}
 use Rattle.listing.proofs.put_corners.Tie as tie
 
-put-signed-requires : tie.Need-put-signed-requires
-put-signed-requires c κs = (c .before .pre .1 .0, c .before .pre .0 .left-fits (c .if1 .taken), omega (arith, c .before .pre .1 .1))
-
 put-coordinate-requires : tie.Need-put-coordinate-requires
 put-coordinate-requires c κs = let room = signed-room _ _ _ (c .put-signed .ensures) (c .before .before .pre .0 .left-fits (c .before .if1 .taken)) in (c .put-signed .ensures .clean, c .before .before .pre .0 .top-fits (c .before .if1 .taken), omega (arith, room, c .before .before .pre .1 .1))
 
@@ -27,12 +24,6 @@ returns c =
       omega (arith, room, c .put-coordinate3 .ensures .1, c .before .put-coordinate2 .ensures .1, c .before .before .put-coordinate .ensures .1),
     )
 
-slice-aggregate-put : tie.Need-slice-aggregate-put
-slice-aggregate-put c = search needs
-
-put-requires : tie.Need-put-requires
-put-requires c κs = search needs
-
 returns-2 : tie.Need-returns-2
 unfolding boxText wordNone
 returns-2 c = (rw (c .before .before .if1 .left) (c .put .ensures), omega (arith, c .put .ensures .length-is))
@@ -41,11 +32,11 @@ pub put-corners-spec : {M : Type 1} → statement M
 put-corners-spec =
     tie.close
     (tie.spec
-    put-signed-requires
+    (λ c κs. (c .before .pre .1 .0, c .before .pre .0 .left-fits (c .if1 .taken), omega (arith, c .before .pre .1 .1)))
     put-coordinate-requires
     put-coordinate-requires-2
     put-coordinate-requires-3
     returns
-    slice-aggregate-put
-    put-requires
+    (λ c. search needs)
+    (λ c κs. search needs)
     returns-2)

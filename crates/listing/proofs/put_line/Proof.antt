@@ -7,12 +7,6 @@ use borrow.Author.Needs.{needs}
 use Rattle.listing.proofs.put_line.Statement.{statement}
 use Rattle.listing.proofs.put_line.Tie as tie
 
-put-requires : tie.Need-put-requires
-put-requires c κs = search needs
-
-put-decimal-requires : tie.Need-put-decimal-requires
-put-decimal-requires c κs = search needs
-
 push-requires : tie.Need-push-requires
 push-requires c κs = (c .put-decimal .ensures .clean, omega (arith, c .put-decimal .ensures .length-is, c .before .put .ensures .length-is, decimal-most (c .before .before .before .args .x), c .before .before .before .pre .1))
 
@@ -24,4 +18,4 @@ returns c = (
 )
 
 pub put-line-spec : {M : Type 1} → statement M
-put-line-spec = tie.close (tie.spec put-requires put-decimal-requires push-requires returns)
+put-line-spec = tie.close (tie.spec (λ c κs. search needs) (λ c κs. search needs) push-requires returns)

@@ -5,11 +5,9 @@ use borrow.Author.Needs.{needs}
 use Rattle.listing.proofs.segment_count.Statement.{statement}
 use Rattle.listing.proofs.segment_count.Tie as tie
 
-judge-segments-requires : tie.Need-judge-segments-requires
-judge-segments-requires c κs = search needs
-
-returns : tie.Need-returns
-returns c = c .judge-segments .ensures .count-is ∙ rw (verdict-parts _ (c .before .before .pre) .segments)
-
 pub segment-count-spec : {M : Type 1} → statement M
-segment-count-spec = tie.close (tie.spec judge-segments-requires returns)
+segment-count-spec =
+    tie.close
+    (tie.spec
+    (λ c κs. search needs)
+    (λ c. c .judge-segments .ensures .count-is ∙ rw (verdict-parts _ (c .before .before .pre) .segments)))

@@ -3,12 +3,9 @@ use Rattle.listing.specs.Figures.{summaryBy}
 use Rattle.listing.proofs.summary_of.Statement.{statement}
 use Rattle.listing.proofs.summary_of.Tie as tie
 
-bounds-of-requires : tie.Need-bounds-of-requires
-bounds-of-requires c κs = c .pre
-
 returns : tie.Need-returns
 unfolding summaryBy
 returns c = rw (c .bounds-of .ensures)
 
 pub summary-of-spec : {M : Type 1} → statement M
-summary-of-spec = tie.close (tie.spec bounds-of-requires returns)
+summary-of-spec = tie.close (tie.spec (λ c κs. c .pre) returns)

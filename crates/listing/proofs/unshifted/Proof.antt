@@ -7,15 +7,14 @@ use borrow.Author.Needs.{needs}
 use Rattle.listing.proofs.unshifted.Statement.{statement}
 use Rattle.listing.proofs.unshifted.Tie as tie
 
-biased-of-requires : tie.Need-biased-of-requires
-biased-of-requires c κs = search needs
-
 signed-of-requires : tie.Need-signed-of-requires
 unfolding biased
 signed-of-requires c κs = omega arith
 
-returns : tie.Need-returns
-returns c = rw (← c .before .biased-of .ensures) (read-back _ (c .signed-of .ok) ∙ c .signed-of .ensures)
-
 pub unshifted-spec : {M : Type 1} → statement M
-unshifted-spec = tie.close (tie.spec biased-of-requires signed-of-requires returns)
+unshifted-spec =
+    tie.close
+    (tie.spec
+    (λ c κs. search needs)
+    signed-of-requires
+    (λ c. rw (← c .before .biased-of .ensures) (read-back _ (c .signed-of .ok) ∙ c .signed-of .ensures)))

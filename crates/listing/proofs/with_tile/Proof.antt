@@ -7,42 +7,21 @@ use borrow.Author.Needs.{needs}
 use Rattle.listing.proofs.with_tile.Statement.{statement}
 use Rattle.listing.proofs.with_tile.Tie as tie
 
-is-pyramid-requires : tie.Need-is-pyramid-requires
-is-pyramid-requires c κs = search needs
-
 returns : tie.Need-returns
 unfolding withTile
 returns c = rw (sym (c .before .is-pyramid .ensures) ∙ c .if1 .taken)
 
-letter-place-requires : tie.Need-letter-place-requires
-letter-place-requires c κs = search needs
-
-letter-place-requires-2 : tie.Need-letter-place-requires-2
-letter-place-requires-2 c κs = search needs
-
 near-edge-requires : tie.Need-near-edge-requires
 near-edge-requires c κs = let p = dimensions-ok _ _ (c .before .before .before .before .before .pre .1) in omega (arith, p .x .within, c .before .letter-place .ensures, c .before .before .before .before .before .pre .0)
-
-least-requires : tie.Need-least-requires
-least-requires c κs = search needs
 
 near-edge-requires-2 : tie.Need-near-edge-requires-2
 near-edge-requires-2 c κs = let p = dimensions-ok _ _ (c .before .before .before .before .before .before .before .pre .1) in omega (arith, p .y .within, c .before .before .letter-place2 .ensures, c .before .before .before .before .before .before .before .pre .0)
 
-least-requires-2 : tie.Need-least-requires-2
-least-requires-2 c κs = search needs
-
 far-edge-requires : tie.Need-far-edge-requires
 far-edge-requires c κs = let p = dimensions-ok _ _ (c .before .before .before .before .before .before .before .before .before .pre .1) in omega (arith, p .x .within, c .before .before .before .before .before .letter-place .ensures, c .before .before .before .before .before .before .before .before .before .pre .0)
 
-greatest-requires : tie.Need-greatest-requires
-greatest-requires c κs = search needs
-
 far-edge-requires-2 : tie.Need-far-edge-requires-2
 far-edge-requires-2 c κs = let p = dimensions-ok _ _ (c .before .before .before .before .before .before .before .before .before .before .before .pre .1) in omega (arith, p .y .within, c .before .before .before .before .before .before .letter-place2 .ensures, c .before .before .before .before .before .before .before .before .before .before .before .pre .0)
-
-greatest-requires-2 : tie.Need-greatest-requires-2
-greatest-requires-2 c κs = search needs
 
 returns-2 : tie.Need-returns-2
 unfolding withTile
@@ -53,16 +32,16 @@ pub with-tile-spec : {M : Type 1} → statement M
 with-tile-spec =
     tie.close
     (tie.spec
-    is-pyramid-requires
+    (λ c κs. search needs)
     returns
-    letter-place-requires
-    letter-place-requires-2
+    (λ c κs. search needs)
+    (λ c κs. search needs)
     near-edge-requires
-    least-requires
+    (λ c κs. search needs)
     near-edge-requires-2
-    least-requires-2
+    (λ c κs. search needs)
     far-edge-requires
-    greatest-requires
+    (λ c κs. search needs)
     far-edge-requires-2
-    greatest-requires-2
+    (λ c κs. search needs)
     returns-2)

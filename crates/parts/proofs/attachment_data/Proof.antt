@@ -4,11 +4,11 @@ use borrow.Author.Needs.{needs}
 use Rattle.parts.proofs.attachment_data.Statement.{statement}
 use Rattle.parts.proofs.attachment_data.Tie as tie
 
-part-requires : tie.Need-part-requires
-part-requires c κs = search (answered-within, data-within)
-
-returns : tie.Need-returns
-returns c = search answered-view
-
 pub attachment-data-spec : {M : Type 1} → statement M
-attachment-data-spec = tie.close (tie.spec (λ c κs. search needs) (λ c κs. search needs) part-requires returns)
+attachment-data-spec =
+    tie.close
+    (tie.spec
+    (λ c κs. search needs)
+    (λ c κs. search needs)
+    (λ c κs. search (answered-within, data-within))
+    (λ c. search answered-view))

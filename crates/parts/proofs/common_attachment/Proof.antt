@@ -4,11 +4,11 @@ use borrow.Author.Needs.{needs}
 use Rattle.parts.proofs.common_attachment.Statement.{statement}
 use Rattle.parts.proofs.common_attachment.Tie as tie
 
-part-requires : tie.Need-part-requires
-part-requires c κs = search (answered-within, xml-attachment-within)
-
-returns : tie.Need-returns
-returns c = search answered-view
-
 pub common-attachment-spec : {M : Type 1} → statement M
-common-attachment-spec = tie.close (tie.spec (λ c κs. search needs) (λ c κs. search needs) part-requires returns)
+common-attachment-spec =
+    tie.close
+    (tie.spec
+    (λ c κs. search needs)
+    (λ c κs. search needs)
+    (λ c κs. search (answered-within, xml-attachment-within))
+    (λ c. search answered-view))

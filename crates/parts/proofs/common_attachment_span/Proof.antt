@@ -14,4 +14,12 @@ unfolding commonAttachment
 returns-2 c = search span-found
 
 pub common-attachment-span-spec : {M : Type 1} → statement M
-common-attachment-span-spec = tie.close (tie.spec (λ c κs. search needs) (λ c. search needs) (λ c. search needs) (λ c κs. search accepted) returns returns-2)
+common-attachment-span-spec =
+    tie.close
+    (tie.spec
+    (λ c κs. search needs)
+    (λ c. search needs)
+    (λ c. search needs)
+    (λ c κs. search accepted)
+    returns
+    returns-2)

@@ -4,11 +4,11 @@ use borrow.Author.Needs.{needs}
 use Rattle.parts.proofs.common_xml.Statement.{statement}
 use Rattle.parts.proofs.common_xml.Tie as tie
 
-part-requires : tie.Need-part-requires
-part-requires c κs = search (answered-within, xml-within)
-
-returns : tie.Need-returns
-returns c = search answered-view
-
 pub common-xml-spec : {M : Type 1} → statement M
-common-xml-spec = tie.close (tie.spec (λ c κs. search needs) (λ c κs. search needs) part-requires returns)
+common-xml-spec =
+    tie.close
+    (tie.spec
+    (λ c κs. search needs)
+    (λ c κs. search needs)
+    (λ c κs. search (answered-within, xml-within))
+    (λ c. search answered-view))

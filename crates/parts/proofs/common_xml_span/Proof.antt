@@ -14,4 +14,12 @@ unfolding commonXml
 returns-2 c = search span-found
 
 pub common-xml-span-spec : {M : Type 1} → statement M
-common-xml-span-spec = tie.close (tie.spec (λ c κs. search needs) (λ c. search needs) (λ c. search needs) (λ c κs. search accepted) returns returns-2)
+common-xml-span-spec =
+    tie.close
+    (tie.spec
+    (λ c κs. search needs)
+    (λ c. search needs)
+    (λ c. search needs)
+    (λ c κs. search accepted)
+    returns
+    returns-2)

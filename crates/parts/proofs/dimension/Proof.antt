@@ -7,15 +7,6 @@ use borrow.Author.Needs.{needs}
 use Rattle.parts.proofs.dimension.Statement.{statement}
 use Rattle.parts.proofs.dimension.Tie as tie
 
-dimension-refusal-requires : tie.Need-dimension-refusal-requires
-dimension-refusal-requires c κs = search needs
-
-enum-known-v : tie.Need-enum-known-v
-enum-known-v c = search needs
-
-enum-told : tie.Need-enum-told
-enum-told c = search needs
-
 entry-place-requires : tie.Need-entry-place-requires
 entry-place-requires c κs = dimension-there _ _ _ (accepted (c .before .before .dimension-refusal .ensures) (c .enum-told .given .1)) .tile
 
@@ -31,9 +22,6 @@ add-dimension-at-2 c = let t = dimension-there _ _ _ (accepted (c .before .befor
 dimension-at-requires : tie.Need-dimension-at-requires
 dimension-at-requires c κs = let t = dimension-there _ _ _ (accepted (c .before .before .before .dimension-refusal .ensures) (c .before .enum-told .given .1)) in omega (arith, t .entry, t .small, c .entry-place .ensures)
 
-returns : tie.Need-returns
-returns c = dimension-refused (c .before .before .before .dimension-refusal .ensures) (c .before .v .given .1)
-
 returns-2 : tie.Need-returns-2
 unfolding dimensionRecord
 returns-2 c = dimension-found (c .before .before .before .before .dimension-refusal .ensures) (c .before .before .enum-told .given .1) (rw (← c .before .entry-place .ensures) (c .dimension-at .ensures))
@@ -42,13 +30,13 @@ pub dimension-spec : {M : Type 1} → statement M
 dimension-spec =
     tie.close
     (tie.spec
-    dimension-refusal-requires
-    enum-known-v
-    enum-told
+    (λ c κs. search needs)
+    (λ c. search needs)
+    (λ c. search needs)
     entry-place-requires
     add-dimension-at
     mul-dimension-at
     add-dimension-at-2
     dimension-at-requires
-    returns
+    (λ c. dimension-refused (c .before .before .before .dimension-refusal .ensures) (c .before .v .given .1))
     returns-2)

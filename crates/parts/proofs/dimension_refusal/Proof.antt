@@ -13,18 +13,6 @@ use borrow.Author.Needs.{needs}
 use Rattle.parts.proofs.dimension_refusal.Statement.{statement}
 use Rattle.parts.proofs.dimension_refusal.Tie as tie
 
-tile-refusal-requires : tie.Need-tile-refusal-requires
-tile-refusal-requires c κs = search needs
-
-enum-known-v : tie.Need-enum-known-v
-enum-known-v c = search needs
-
-enum-told : tie.Need-enum-told
-enum-told c = search needs
-
-entry-place-requires : tie.Need-entry-place-requires
-entry-place-requires c κs = accepted (c .before .before .tile-refusal .ensures) (c .enum-told .given .1)
-
 dimension-count-requires : tie.Need-dimension-count-requires
 dimension-count-requires c κs = omega (arith, tile-there _ _ (accepted (c .before .before .before .tile-refusal .ensures) (c .before .enum-told .given .1)) .entry, c .entry-place .ensures)
 
@@ -53,10 +41,10 @@ pub dimension-refusal-spec : {M : Type 1} → statement M
 dimension-refusal-spec =
     tie.close
     (tie.spec
-    tile-refusal-requires
-    enum-known-v
-    enum-told
-    entry-place-requires
+    (λ c κs. search needs)
+    (λ c. search needs)
+    (λ c. search needs)
+    (λ c κs. accepted (c .before .before .tile-refusal .ensures) (c .enum-told .given .1))
     dimension-count-requires
     returns
     returns-2

@@ -15,9 +15,6 @@ Inv-loop s n e₀ k₀ e k = (k ≤ n) × (e ≡ entryPlace s k)
 abbrev μ-loop : tie.MeasureT-loop
 μ-loop s n e₀ k₀ e k = n - k
 
-u64-at-requires : tie.Need-u64-at-requires Inv-loop μ-loop
-u64-at-requires c κs = omega (arith, tiled _ (tile-there _ _ (c .before .pre) .accepted) .long)
-
 add-e : tie.Need-add-e Inv-loop μ-loop
 unfolding directoryPosition
 add-e c = let f = tiled _ (tile-there _ _ (c .before .before .pre) .accepted) in omega (arith, f .entries, f .small, c .u64-at .ensures)
@@ -32,17 +29,8 @@ add-e-2 c = let f = entry-fits _ _ _ _ (c .before .before .before .before .pre) 
 dimension-count-requires : tie.Need-dimension-count-requires Inv-loop μ-loop
 dimension-count-requires c κs = let f = entry-fits _ _ _ _ (c .before .before .before .before .pre) (c .loop-test .taken) (c .before .loop .inv .1) in omega (arith, f .0, f .1)
 
-mul-e : tie.Need-mul-e Inv-loop μ-loop
-mul-e c = omega arith
-
 add-e-3 : tie.Need-add-e-3 Inv-loop μ-loop
 add-e-3 c = let f = entry-fits _ _ _ _ (c .before .before .before .before .before .pre) (c .before .loop-test .taken) (c .before .before .loop .inv .1) in omega (arith, f .0, f .1, c .dimension-count .ensures .0)
-
-add-k : tie.Need-add-k Inv-loop μ-loop
-add-k c = omega arith
-
-loop-less : tie.Need-loop-less Inv-loop μ-loop
-loop-less c = omega arith
 
 loop-again : tie.Need-loop-again Inv-loop μ-loop
 loop-again c = (omega arith, rw (c .dimension-count .ensures .0) (entry-step _ _ _ _ (c .before .before .before .before .before .pre) (c .before .loop-test .taken) (c .before .before .loop .inv .1)))
@@ -56,14 +44,14 @@ entry-place-spec =
     (tie.spec
     Inv-loop
     μ-loop
-    u64-at-requires
+    (λ c κs. omega (arith, tiled _ (tile-there _ _ (c .before .pre) .accepted) .long))
     add-e
     loop-holds
     add-e-2
     dimension-count-requires
-    mul-e
+    (λ c. omega arith)
     add-e-3
-    add-k
-    loop-less
+    (λ c. omega arith)
+    (λ c. omega arith)
     loop-again
     returns)

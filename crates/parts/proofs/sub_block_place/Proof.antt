@@ -5,15 +5,14 @@ use Rattle.parts.proofs.Numbered.{tile-there}
 use Rattle.parts.proofs.sub_block_place.Statement.{statement}
 use Rattle.parts.proofs.sub_block_place.Tie as tie
 
-add-u64-at : tie.Need-add-u64-at
-add-u64-at c = let t = tile-there _ _ (c .before .pre .0) in omega (arith, t .entry, t .small, c .before .pre .1)
-
-u64-at-requires : tie.Need-u64-at-requires
-u64-at-requires c κs = let t = tile-there _ _ (c .before .pre .0) in omega (arith, t .entry, c .before .pre .1)
-
 returns : tie.Need-returns
 unfolding filePosition
 returns c = c .u64-at .ensures
 
 pub sub-block-place-spec : {M : Type 1} → statement M
-sub-block-place-spec = tie.close (tie.spec add-u64-at u64-at-requires returns)
+sub-block-place-spec =
+    tie.close
+    (tie.spec
+    (λ c. let t = tile-there _ _ (c .before .pre .0) in omega (arith, t .entry, t .small, c .before .pre .1))
+    (λ c κs. let t = tile-there _ _ (c .before .pre .0) in omega (arith, t .entry, c .before .pre .1))
+    returns)

@@ -4,11 +4,11 @@ use borrow.Author.Needs.{needs}
 use Rattle.parts.proofs.tile_attachment.Statement.{statement}
 use Rattle.parts.proofs.tile_attachment.Tie as tie
 
-part-requires : tie.Need-part-requires
-part-requires c κs = search (answered-within, attachment-within)
-
-returns : tie.Need-returns
-returns c = search answered-view
-
 pub tile-attachment-spec : {M : Type 1} → statement M
-tile-attachment-spec = tie.close (tie.spec (λ c κs. search needs) (λ c κs. search needs) part-requires returns)
+tile-attachment-spec =
+    tie.close
+    (tie.spec
+    (λ c κs. search needs)
+    (λ c κs. search needs)
+    (λ c κs. search (answered-within, attachment-within))
+    (λ c. search answered-view))

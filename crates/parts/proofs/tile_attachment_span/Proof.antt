@@ -1,19 +1,10 @@
 -- `parts::tile_attachment_span` meets its contract.
-use Rattle.format.proofs.Answering.{accepted, span-refused}
+use Rattle.format.proofs.Answering.{accepted}
 use Rattle.parts.proofs.Numbered.{filled-at}
 use Rattle.parts.proofs.Parts.{attachment-found, attachment-refused}
 use borrow.Author.Needs.{needs}
 use Rattle.parts.proofs.tile_attachment_span.Statement.{statement}
 use Rattle.parts.proofs.tile_attachment_span.Tie as tie
-
-attachment-span-requires : tie.Need-attachment-span-requires
-attachment-span-requires c κs = search filled-at
-
-returns : tie.Need-returns
-returns c = search attachment-refused
-
-returns-2 : tie.Need-returns-2
-returns-2 c = search attachment-found
 
 pub tile-attachment-span-spec : {M : Type 1} → statement M
 tile-attachment-span-spec =
@@ -24,6 +15,6 @@ tile-attachment-span-spec =
     (λ c. search needs)
     (λ c κs. search accepted)
     (λ c κs. search accepted)
-    attachment-span-requires
-    returns
-    returns-2)
+    (λ c κs. search filled-at)
+    (λ c. search attachment-refused)
+    (λ c. search attachment-found))

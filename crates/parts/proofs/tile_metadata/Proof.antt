@@ -4,11 +4,11 @@ use borrow.Author.Needs.{needs}
 use Rattle.parts.proofs.tile_metadata.Statement.{statement}
 use Rattle.parts.proofs.tile_metadata.Tie as tie
 
-part-requires : tie.Need-part-requires
-part-requires c κs = search (answered-within, metadata-within)
-
-returns : tie.Need-returns
-returns c = search answered-view
-
 pub tile-metadata-spec : {M : Type 1} → statement M
-tile-metadata-spec = tie.close (tie.spec (λ c κs. search needs) (λ c κs. search needs) part-requires returns)
+tile-metadata-spec =
+    tie.close
+    (tie.spec
+    (λ c κs. search needs)
+    (λ c κs. search needs)
+    (λ c κs. search (answered-within, metadata-within))
+    (λ c. search answered-view))

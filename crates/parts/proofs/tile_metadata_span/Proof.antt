@@ -1,19 +1,10 @@
 -- `parts::tile_metadata_span` meets its contract.
-use Rattle.format.proofs.Answering.{accepted, span-refused}
+use Rattle.format.proofs.Answering.{accepted}
 use Rattle.parts.proofs.Numbered.{filled-at}
 use Rattle.parts.proofs.Parts.{metadata-found, metadata-refused}
 use borrow.Author.Needs.{needs}
 use Rattle.parts.proofs.tile_metadata_span.Statement.{statement}
 use Rattle.parts.proofs.tile_metadata_span.Tie as tie
-
-metadata-span-requires : tie.Need-metadata-span-requires
-metadata-span-requires c κs = search filled-at
-
-returns : tie.Need-returns
-returns c = search metadata-refused
-
-returns-2 : tie.Need-returns-2
-returns-2 c = search metadata-found
 
 pub tile-metadata-span-spec : {M : Type 1} → statement M
 tile-metadata-span-spec =
@@ -24,6 +15,6 @@ tile-metadata-span-spec =
     (λ c. search needs)
     (λ c κs. search accepted)
     (λ c κs. search accepted)
-    metadata-span-requires
-    returns
-    returns-2)
+    (λ c κs. search filled-at)
+    (λ c. search metadata-refused)
+    (λ c. search metadata-found))

@@ -4,11 +4,11 @@ use borrow.Author.Needs.{needs}
 use Rattle.parts.proofs.tile_pixels.Statement.{statement}
 use Rattle.parts.proofs.tile_pixels.Tie as tie
 
-part-requires : tie.Need-part-requires
-part-requires c κs = search (answered-within, pixels-within)
-
-returns : tie.Need-returns
-returns c = search answered-view
-
 pub tile-pixels-spec : {M : Type 1} → statement M
-tile-pixels-spec = tie.close (tie.spec (λ c κs. search needs) (λ c κs. search needs) part-requires returns)
+tile-pixels-spec =
+    tie.close
+    (tie.spec
+    (λ c κs. search needs)
+    (λ c κs. search needs)
+    (λ c κs. search (answered-within, pixels-within))
+    (λ c. search answered-view))

@@ -10,9 +10,6 @@ use borrow.Author.Needs.{needs}
 use Rattle.parts.proofs.xml_attachment_span.Statement.{statement}
 use Rattle.parts.proofs.xml_attachment_span.Tie as tie
 
-u64-at-requires : tie.Need-u64-at-requires
-u64-at-requires c κs = omega (arith, tiled _ (c .before .pre) .long)
-
 returns : tie.Need-returns
 unfolding xmlAttachmentSpan metadataPosition
 returns c = rw (← c .before .before .u64-at .ensures, eq-eqb _ _ (c .before .if1 .taken)) (c .nothing .ensures)
@@ -49,7 +46,7 @@ pub xml-attachment-span-spec : {M : Type 1} → statement M
 xml-attachment-span-spec =
     tie.close
     (tie.spec
-    u64-at-requires
+    (λ c κs. omega (arith, tiled _ (c .before .pre) .long))
     (λ c κs. search needs)
     returns
     add-start

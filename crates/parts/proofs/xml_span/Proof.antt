@@ -10,9 +10,6 @@ use borrow.Author.Needs.{needs}
 use Rattle.parts.proofs.xml_span.Statement.{statement}
 use Rattle.parts.proofs.xml_span.Tie as tie
 
-u64-at-requires : tie.Need-u64-at-requires
-u64-at-requires c κs = omega (arith, tiled _ (c .before .pre) .long)
-
 returns : tie.Need-returns
 unfolding xmlSpan metadataPosition
 returns c = rw (← c .before .before .u64-at .ensures, eq-eqb _ _ (c .before .if1 .taken)) (c .nothing .ensures)
@@ -35,4 +32,12 @@ returns-2 c = rw (← c .before .before .u64-at .ensures, ne-eqb _ _ (c .before 
 
 pub xml-span-spec : {M : Type 1} → statement M
 xml-span-spec =
-    tie.close (tie.spec u64-at-requires (λ c κs. search needs) returns add-start add-u32-at u32-at-requires returns-2)
+    tie.close
+    (tie.spec
+    (λ c κs. omega (arith, tiled _ (c .before .pre) .long))
+    (λ c κs. search needs)
+    returns
+    add-start
+    add-u32-at
+    u32-at-requires
+    returns-2)

@@ -17,31 +17,13 @@ Inv-loop s e starts any-scene i₀ i = (i ≤ 26) × (allBelow i (λ k. startsTh
 abbrev μ-loop : tie.MeasureT-loop
 μ-loop s e starts any-scene i₀ i = 26 - i
 
-is-pyramid-requires : tie.Need-is-pyramid-requires Inv-loop μ-loop
-is-pyramid-requires c κs = search needs
-
 returns : tie.Need-returns Inv-loop μ-loop
 unfolding selects
 returns c = rw (sym (c .before .is-pyramid .ensures) ∙ c .if1 .taken)
 
-loop-holds : tie.Need-loop-holds Inv-loop μ-loop
-loop-holds c = (omega arith, all-zero _)
-
-add-starts-there : tie.Need-add-starts-there Inv-loop μ-loop
-add-starts-there c = omega arith
-
-starts-there-requires : tie.Need-starts-there-requires Inv-loop μ-loop
-starts-there-requires c κs = search needs
-
 returns-2 : tie.Need-returns-2 Inv-loop μ-loop
 unfolding selects
 returns-2 c = rw (sym (c .before .before .before .before .before .is-pyramid .ensures) ∙ c .before .before .before .before .if1 .left) (sym (all-fails 26 _ _ (omega arith) (sym (c .before .starts-there .ensures) ∙ not-true _ (c .if2 .taken))))
-
-add-i : tie.Need-add-i Inv-loop μ-loop
-add-i c = omega arith
-
-loop-less : tie.Need-loop-less Inv-loop μ-loop
-loop-less c = omega arith
 
 loop-again : tie.Need-loop-again Inv-loop μ-loop
 loop-again c = (omega arith, all-more _ _ (c .before .before .before .loop .inv .1) (sym (c .before .starts-there .ensures) ∙ not-false _ (c .if2 .left)))
@@ -56,13 +38,13 @@ is-selected-spec =
     (tie.spec
     Inv-loop
     μ-loop
-    is-pyramid-requires
+    (λ c κs. search needs)
     returns
-    loop-holds
-    add-starts-there
-    starts-there-requires
+    (λ c. (omega arith, all-zero _))
+    (λ c. omega arith)
+    (λ c κs. search needs)
     returns-2
-    add-i
-    loop-less
+    (λ c. omega arith)
+    (λ c. omega arith)
     loop-again
     returns-3)

@@ -13,15 +13,6 @@ Inv-loop s starts any-scene table₀ d n e₀ k₀ table e k = Selecting s start
 abbrev μ-loop : tie.MeasureT-loop
 μ-loop s starts any-scene table₀ d n e₀ k₀ table e k = n - k
 
-u64-at-requires : tie.Need-u64-at-requires Inv-loop μ-loop
-u64-at-requires c κs = let h = tiled _ (c .before .pre .0) in omega (arith, h .long)
-
-add-u32-at : tie.Need-add-u32-at Inv-loop μ-loop
-add-u32-at c = let h = entries-within _ _ (c .before .before .pre .0) (c .u64-at .ensures) in omega (arith, h)
-
-u32-at-requires : tie.Need-u32-at-requires Inv-loop μ-loop
-u32-at-requires c κs = let h = entries-within _ _ (c .before .before .pre .0) (c .u64-at .ensures) in omega (arith, h)
-
 add-e : tie.Need-add-e Inv-loop μ-loop
 add-e c = let h = entries-within _ _ (c .before .before .before .pre .0) (c .before .u64-at .ensures) in omega (arith, h)
 
@@ -45,25 +36,13 @@ dimension-count-requires : tie.Need-dimension-count-requires Inv-loop μ-loop
 unfolding nextEntry
 dimension-count-requires c κs = let l = selecting-listed _ _ _ _ _ _ _ _ (c .before .before .loop .inv) (c .before .before .before .before .before .before .pre .0) (c .before .loop-test .taken) in omega (arith, l .entry)
 
-mul-e : tie.Need-mul-e Inv-loop μ-loop
-mul-e c = omega arith
-
 add-e-3 : tie.Need-add-e-3 Inv-loop μ-loop
 unfolding nextEntry
 add-e-3 c = let l = selecting-listed _ _ _ _ _ _ _ _ (c .before .before .before .loop .inv) (c .before .before .before .before .before .before .before .pre .0) (c .before .before .loop-test .taken) in omega (arith, l .entry, c .dimension-count .ensures .0)
 
-add-k : tie.Need-add-k Inv-loop μ-loop
-add-k c = omega arith
-
-loop-less : tie.Need-loop-less Inv-loop μ-loop
-loop-less c = omega arith
-
 loop-again : tie.Need-loop-again Inv-loop μ-loop
 unfolding nextEntry
 loop-again c = selecting-next _ _ _ _ _ _ _ _ (c .before .before .before .loop .inv) _ _ (c .before .before .before .before .before .before .before .pre .0) (c .before .before .loop-test .taken) (c .before .place-if-selected .ensures) (rw (c .dimension-count .ensures .0))
-
-returns : tie.Need-returns Inv-loop μ-loop
-returns c = selecting-end _ _ _ _ _ _ _ _ (c .before .loop .inv) (c .loop-test .left)
 
 pub select-spec : {M : Type 1} → statement M
 select-spec =
@@ -71,9 +50,9 @@ select-spec =
     (tie.spec
     Inv-loop
     μ-loop
-    u64-at-requires
-    add-u32-at
-    u32-at-requires
+    (λ c κs. let h = tiled _ (c .before .pre .0) in omega (arith, h .long))
+    (λ c. let h = entries-within _ _ (c .before .before .pre .0) (c .u64-at .ensures) in omega (arith, h))
+    (λ c κs. let h = entries-within _ _ (c .before .before .pre .0) (c .u64-at .ensures) in omega (arith, h))
     add-e
     loop-holds
     place-if-selected-requires
@@ -81,9 +60,9 @@ select-spec =
     element-write-table
     add-e-2
     dimension-count-requires
-    mul-e
+    (λ c. omega arith)
     add-e-3
-    add-k
-    loop-less
+    (λ c. omega arith)
+    (λ c. omega arith)
     loop-again
-    returns)
+    (λ c. selecting-end _ _ _ _ _ _ _ _ (c .before .loop .inv) (c .loop-test .left)))

@@ -5,18 +5,9 @@ use borrow.Author.Needs.{needs}
 use Rattle.selection.proofs.starts_there.Statement.{statement}
 use Rattle.selection.proofs.starts_there.Tie as tie
 
-is-free-requires : tie.Need-is-free-requires
-is-free-requires c κs = search needs
-
 returns : tie.Need-returns
 unfolding startsThere
 returns c = search flags depth 8
-
-tile-start-requires : tie.Need-tile-start-requires
-tile-start-requires c κs = search needs
-
-asked-start-requires : tie.Need-asked-start-requires
-asked-start-requires c κs = search needs
 
 returns-2 : tie.Need-returns-2
 unfolding startsThere
@@ -30,9 +21,9 @@ pub starts-there-spec : {M : Type 1} → statement M
 starts-there-spec =
     tie.close
     (tie.spec
-    is-free-requires
+    (λ c κs. search needs)
     returns
-    tile-start-requires
-    asked-start-requires
+    (λ c κs. search needs)
+    (λ c κs. search needs)
     returns-2
     returns-3)

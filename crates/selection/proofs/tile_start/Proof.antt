@@ -8,20 +8,11 @@ use borrow.Author.Needs.{needs}
 use Rattle.selection.proofs.tile_start.Statement.{statement}
 use Rattle.selection.proofs.tile_start.Tie as tie
 
-holds-letter-requires : tie.Need-holds-letter-requires
-holds-letter-requires c κs = search needs
-
-letter-place-requires : tie.Need-letter-place-requires
-letter-place-requires c κs = search needs
-
 add-u32-at : tie.Need-add-u32-at
 add-u32-at c = let p = letter-placed _ _ _ (sym (c .before .before .holds-letter .ensures) ∙ c .before .if1 .taken) in omega (arith, p .within)
 
 u32-at-requires : tie.Need-u32-at-requires
 u32-at-requires c κs = let p = letter-placed _ _ _ (sym (c .before .before .holds-letter .ensures) ∙ c .before .if1 .taken) in omega (arith, p .within)
-
-biased-of-requires : tie.Need-biased-of-requires
-biased-of-requires c κs = search needs
 
 returns : tie.Need-returns
 unfolding tileStart start
@@ -35,10 +26,10 @@ pub tile-start-spec : {M : Type 1} → statement M
 tile-start-spec =
     tie.close
     (tie.spec
-    holds-letter-requires
-    letter-place-requires
+    (λ c κs. search needs)
+    (λ c κs. search needs)
     add-u32-at
     u32-at-requires
-    biased-of-requires
+    (λ c κs. search needs)
     returns
     returns-2)

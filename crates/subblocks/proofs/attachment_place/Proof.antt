@@ -6,15 +6,6 @@ use borrow.Author.Needs.{needs}
 use Rattle.subblocks.proofs.attachment_place.Statement.{statement}
 use Rattle.subblocks.proofs.attachment_place.Tie as tie
 
-pixels-place-requires : tie.Need-pixels-place-requires
-pixels-place-requires c κs = search needs
-
-add-u64-at : tie.Need-add-u64-at
-add-u64-at c = search needs
-
-u64-at-requires : tie.Need-u64-at-requires
-u64-at-requires c κs = let i = agreed-in _ _ _ _ (c .before .before .before .pre .agreed) in omega (arith, i .within, i .least)
-
 add-result : tie.Need-add-result
 unfolding dataSize
 add-result c = let i = filled-in _ _ _ _ (c .before .before .before .before .pre) in omega (arith, i .pixels, c .before .pixels-place .ensures, c .u64-at .ensures)
@@ -25,4 +16,10 @@ returns c = rw (← c .before .pixels-place .ensures, ← c .u64-at .ensures)
 
 pub attachment-place-spec : {M : Type 1} → statement M
 attachment-place-spec =
-    tie.close (tie.spec pixels-place-requires add-u64-at u64-at-requires add-result returns)
+    tie.close
+    (tie.spec
+    (λ c κs. search needs)
+    (λ c. search needs)
+    (λ c κs. let i = agreed-in _ _ _ _ (c .before .before .before .pre .agreed) in omega (arith, i .within, i .least))
+    add-result
+    returns)

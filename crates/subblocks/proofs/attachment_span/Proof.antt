@@ -7,19 +7,15 @@ use borrow.Author.Needs.{needs}
 use Rattle.subblocks.proofs.attachment_span.Statement.{statement}
 use Rattle.subblocks.proofs.attachment_span.Tie as tie
 
-attachment-place-requires : tie.Need-attachment-place-requires
-attachment-place-requires c κs = search needs
-
-add-u32-at : tie.Need-add-u32-at
-add-u32-at c = search needs
-
-u32-at-requires : tie.Need-u32-at-requires
-u32-at-requires c κs = let i = agreed-in _ _ _ _ (c .before .before .before .pre .agreed) in omega (arith, i .within, i .least)
-
 returns : tie.Need-returns
 unfolding attachmentSpan attachmentSize
 returns c = rw (← c .before .attachment-place .ensures, ← c .u32-at .ensures .0)
 
 pub attachment-span-spec : {M : Type 1} → statement M
 attachment-span-spec =
-    tie.close (tie.spec attachment-place-requires add-u32-at u32-at-requires returns)
+    tie.close
+    (tie.spec
+    (λ c κs. search needs)
+    (λ c. search needs)
+    (λ c κs. let i = agreed-in _ _ _ _ (c .before .before .before .pre .agreed) in omega (arith, i .within, i .least))
+    returns)

@@ -14,28 +14,13 @@ use borrow.Author.Needs.{needs}
 use Rattle.subblocks.proofs.contents_bad.Statement.{statement}
 use Rattle.subblocks.proofs.contents_bad.Tie as tie
 
-add-u32-at : tie.Need-add-u32-at
-add-u32-at c = search needs
-
-u32-at-requires : tie.Need-u32-at-requires
-u32-at-requires c κs = let i = agreed-in _ _ _ _ (c .before .before .pre) in omega (arith, i .within, i .least)
-
 returns : tie.Need-returns
 unfolding contentsBad metadataSize
 returns c = search flags depth 8
 
-add-u32-at-2 : tie.Need-add-u32-at-2
-add-u32-at-2 c = search needs
-
-u32-at-requires-2 : tie.Need-u32-at-requires-2
-u32-at-requires-2 c κs = let i = agreed-in _ _ _ _ (c .before .before .before .before .pre) in omega (arith, i .within, i .least)
-
 returns-2 : tie.Need-returns-2
 unfolding contentsBad metadataSize attachmentSize
 returns-2 c = search flags depth 8
-
-add-u64-at : tie.Need-add-u64-at
-add-u64-at c = search needs
 
 u64-at-requires : tie.Need-u64-at-requires
 u64-at-requires c κs = let i = agreed-in _ _ _ _ (c .before .before .before .before .before .before .pre) in omega (arith, i .within, i .least)
@@ -43,15 +28,6 @@ u64-at-requires c κs = let i = agreed-in _ _ _ _ (c .before .before .before .be
 returns-3 : tie.Need-returns-3
 unfolding contentsBad metadataSize attachmentSize dataSize
 returns-3 c = search flags depth 8
-
-dimension-count-requires : tie.Need-dimension-count-requires
-dimension-count-requires c κs = listed-in _ _ (c .before .before .before .before .before .before .before .before .pre .placed .listed)
-
-fixed-part-requires : tie.Need-fixed-part-requires
-fixed-part-requires c κs = search needs
-
-room-at-requires : tie.Need-room-at-requires
-room-at-requires c κs = search needs
 
 add-if4 : tie.Need-add-if4
 add-if4 c =
@@ -80,9 +56,6 @@ returns-4 c =
     rw (← c .before .before .before .dimension-count .ensures .0, ← c .before .before .fixed-part .ensures, ← c .before .before .before .before .before .before .before .before .before .u32-at .ensures .0, ← c .before .before .before .before .before .before .before .u32-at2 .ensures .0, ← c .before .before .before .before .before .u64-at .ensures)
     (any-later _ _ (any-later _ _ (any-later _ _ (any-here _ _ (lt-yes _ _ _ (c .before .room-at .ensures) (c .if4 .taken))))))
 
-is-pixels-size-requires : tie.Need-is-pixels-size-requires
-is-pixels-size-requires c κs = search needs
-
 returns-5 : tie.Need-returns-5
 unfolding contentsBad metadataSize attachmentSize dataSize
 returns-5 c =
@@ -103,22 +76,22 @@ pub contents-bad-spec : {M : Type 1} → statement M
 contents-bad-spec =
     tie.close
     (tie.spec
-    add-u32-at
-    u32-at-requires
+    (λ c. search needs)
+    (λ c κs. let i = agreed-in _ _ _ _ (c .before .before .pre) in omega (arith, i .within, i .least))
     returns
-    add-u32-at-2
-    u32-at-requires-2
+    (λ c. search needs)
+    (λ c κs. let i = agreed-in _ _ _ _ (c .before .before .before .before .pre) in omega (arith, i .within, i .least))
     returns-2
-    add-u64-at
+    (λ c. search needs)
     u64-at-requires
     returns-3
-    dimension-count-requires
-    fixed-part-requires
-    room-at-requires
+    (λ c κs. listed-in _ _ (c .before .before .before .before .before .before .before .before .pre .placed .listed))
+    (λ c κs. search needs)
+    (λ c κs. search needs)
     add-if4
     add-if4-2
     add-if4-3
     returns-4
-    is-pixels-size-requires
+    (λ c κs. search needs)
     returns-5
     returns-6)

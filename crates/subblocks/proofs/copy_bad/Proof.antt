@@ -7,9 +7,6 @@ use borrow.Author.Needs.{needs}
 use Rattle.subblocks.proofs.copy_bad.Statement.{statement}
 use Rattle.subblocks.proofs.copy_bad.Tie as tie
 
-add-same-range : tie.Need-add-same-range
-add-same-range c = search needs
-
 same-range-requires : tie.Need-same-range-requires
 unfolding nextEntry fixedPart
 same-range-requires c κs = omega arith
@@ -22,18 +19,9 @@ dimension-count-requires : tie.Need-dimension-count-requires
 unfolding nextEntry
 dimension-count-requires c κs = omega arith
 
-mul-same-range : tie.Need-mul-same-range
-mul-same-range c = search needs
-
-add-same-range-2 : tie.Need-add-same-range-2
-add-same-range-2 c = search needs
-
 add-same-range-3 : tie.Need-add-same-range-3
 unfolding nextEntry
 add-same-range-3 c = omega arith
-
-add-same-range-4 : tie.Need-add-same-range-4
-add-same-range-4 c = search needs
 
 same-range-requires-2 : tie.Need-same-range-requires-2
 unfolding nextEntry fixedPart
@@ -51,14 +39,14 @@ pub copy-bad-spec : {M : Type 1} → statement M
 copy-bad-spec =
     tie.close
     (tie.spec
-    add-same-range
+    (λ c. search needs)
     same-range-requires
     returns
     dimension-count-requires
-    mul-same-range
-    add-same-range-2
+    (λ c. search needs)
+    (λ c. search needs)
     add-same-range-3
-    add-same-range-4
+    (λ c. search needs)
     same-range-requires-2
     returns-2
     returns-3)

@@ -5,12 +5,6 @@ use borrow.Author.Needs.{needs}
 use Rattle.subblocks.proofs.fixed_part.Statement.{statement}
 use Rattle.subblocks.proofs.fixed_part.Tie as tie
 
-mul-f : tie.Need-mul-f
-mul-f c = search needs
-
-add-f : tie.Need-add-f
-add-f c = search needs
-
 returns : tie.Need-returns
 unfolding fixedPart
 returns c = omega arith
@@ -20,4 +14,4 @@ unfolding fixedPart
 returns-2 c = omega arith
 
 pub fixed-part-spec : {M : Type 1} → statement M
-fixed-part-spec = tie.close (tie.spec mul-f add-f returns returns-2)
+fixed-part-spec = tie.close (tie.spec (λ c. search needs) (λ c. search needs) returns returns-2)

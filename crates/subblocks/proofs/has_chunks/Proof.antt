@@ -7,9 +7,6 @@ use borrow.Author.Needs.{needs}
 use Rattle.subblocks.proofs.has_chunks.Statement.{statement}
 use Rattle.subblocks.proofs.has_chunks.Tie as tie
 
-u32-at-requires : tie.Need-u32-at-requires
-u32-at-requires c κs = let i = agreed-in _ _ _ _ (c .before .before .before .pre .agreed) in omega (arith, i .within, i .least)
-
 is-container-requires : tie.Need-is-container-requires
 unfolding metadataSize
 is-container-requires c κs =
@@ -21,4 +18,11 @@ unfolding hasChunks metadataSize
 returns c = rw (← c .before .before .metadata-place .ensures, ← c .before .u32-at .ensures .0) (c .is-container .ensures)
 
 pub has-chunks-spec : {M : Type 1} → statement M
-has-chunks-spec = tie.close (tie.spec (λ c κs. search needs) (λ c. search needs) u32-at-requires is-container-requires returns)
+has-chunks-spec =
+    tie.close
+    (tie.spec
+    (λ c κs. search needs)
+    (λ c. search needs)
+    (λ c κs. let i = agreed-in _ _ _ _ (c .before .before .before .pre .agreed) in omega (arith, i .within, i .least))
+    is-container-requires
+    returns)

@@ -10,15 +10,9 @@ use borrow.Author.Needs.{needs}
 use Rattle.subblocks.proofs.is_pixels_size.Statement.{statement}
 use Rattle.subblocks.proofs.is_pixels_size.Tie as tie
 
-letter-place-requires : tie.Need-letter-place-requires
-letter-place-requires c κs = search needs
-
 stored-at-requires : tie.Need-stored-at-requires
 unfolding nextEntry
 stored-at-requires c κs = let p = dimensions-ok _ _ (c .before .before .pre .dimensions) in omega (arith, p .x .within, c .before .before .pre .entry, c .letter-place .ensures)
-
-letter-place-requires-2 : tie.Need-letter-place-requires-2
-letter-place-requires-2 c κs = search needs
 
 stored-at-requires-2 : tie.Need-stored-at-requires-2
 unfolding nextEntry
@@ -31,9 +25,6 @@ add-u32-at c = omega (arith, c .before .before .before .before .before .pre .ent
 u32-at-requires : tie.Need-u32-at-requires
 unfolding nextEntry
 u32-at-requires c κs = omega (arith, c .before .before .before .before .before .pre .entry)
-
-pixel-bytes-requires : tie.Need-pixel-bytes-requires
-pixel-bytes-requires c κs = search needs
 
 is-product-requires : tie.Need-is-product-requires
 unfolding pixelType
@@ -54,12 +45,12 @@ pub is-pixels-size-spec : {M : Type 1} → statement M
 is-pixels-size-spec =
     tie.close
     (tie.spec
-    letter-place-requires
+    (λ c κs. search needs)
     stored-at-requires
-    letter-place-requires-2
+    (λ c κs. search needs)
     stored-at-requires-2
     add-u32-at
     u32-at-requires
-    pixel-bytes-requires
+    (λ c κs. search needs)
     is-product-requires
     returns)

@@ -10,15 +10,6 @@ use borrow.Author.Needs.{needs}
 use Rattle.subblocks.proofs.metadata_place.Statement.{statement}
 use Rattle.subblocks.proofs.metadata_place.Tie as tie
 
-add-result : tie.Need-add-result
-add-result c = search needs
-
-dimension-count-requires : tie.Need-dimension-count-requires
-dimension-count-requires c κs = listed-in _ _ (c .before .before .pre .placed .listed)
-
-fixed-part-requires : tie.Need-fixed-part-requires
-fixed-part-requires c κs = search needs
-
 add-result-2 : tie.Need-add-result-2
 add-result-2 c =
     let k = c .before .before .before .before in
@@ -33,4 +24,9 @@ returns c = rw (← c .before .dimension-count .ensures .0, ← c .fixed-part .e
 pub metadata-place-spec : {M : Type 1} → statement M
 metadata-place-spec =
     tie.close
-    (tie.spec add-result dimension-count-requires fixed-part-requires add-result-2 returns)
+    (tie.spec
+    (λ c. search needs)
+    (λ c κs. listed-in _ _ (c .before .before .pre .placed .listed))
+    (λ c κs. search needs)
+    add-result-2
+    returns)

@@ -7,19 +7,15 @@ use borrow.Author.Needs.{needs}
 use Rattle.subblocks.proofs.metadata_span.Statement.{statement}
 use Rattle.subblocks.proofs.metadata_span.Tie as tie
 
-metadata-place-requires : tie.Need-metadata-place-requires
-metadata-place-requires c κs = search needs
-
-add-u32-at : tie.Need-add-u32-at
-add-u32-at c = search needs
-
-u32-at-requires : tie.Need-u32-at-requires
-u32-at-requires c κs = let i = agreed-in _ _ _ _ (c .before .before .before .pre .agreed) in omega (arith, i .within, i .least)
-
 returns : tie.Need-returns
 unfolding metadataSpan metadataSize
 returns c = rw (← c .before .metadata-place .ensures, ← c .u32-at .ensures .0)
 
 pub metadata-span-spec : {M : Type 1} → statement M
 metadata-span-spec =
-    tie.close (tie.spec metadata-place-requires add-u32-at u32-at-requires returns)
+    tie.close
+    (tie.spec
+    (λ c κs. search needs)
+    (λ c. search needs)
+    (λ c κs. let i = agreed-in _ _ _ _ (c .before .before .before .pre .agreed) in omega (arith, i .within, i .least))
+    returns)

@@ -12,15 +12,6 @@ use borrow.Author.Needs.{needs}
 use Rattle.subblocks.proofs.sub_block_bad.Statement.{statement}
 use Rattle.subblocks.proofs.sub_block_bad.Tie as tie
 
-room-at-requires : tie.Need-room-at-requires
-room-at-requires c κs = search needs
-
-dimension-count-requires : tie.Need-dimension-count-requires
-dimension-count-requires c κs = listed-in _ _ (c .before .before .before .pre .listed)
-
-fixed-part-requires : tie.Need-fixed-part-requires
-fixed-part-requires c κs = search needs
-
 returns : tie.Need-returns
 unfolding subBlockBad
 returns c = rw (← c .before .before .dimension-count .ensures .0, ← c .before .fixed-part .ensures) (search flags depth 8)
@@ -44,9 +35,9 @@ pub sub-block-bad-spec : {M : Type 1} → statement M
 sub-block-bad-spec =
     tie.close
     (tie.spec
-    room-at-requires
-    dimension-count-requires
-    fixed-part-requires
+    (λ c κs. search needs)
+    (λ c κs. listed-in _ _ (c .before .before .before .pre .listed))
+    (λ c κs. search needs)
     returns
     copy-bad-requires
     returns-2

@@ -8,32 +8,11 @@ use borrow.Author.Needs.{needs}
 use Rattle.subblocks.proofs.tile_at.Statement.{statement}
 use Rattle.subblocks.proofs.tile_at.Tie as tie
 
-letter-place-requires : tie.Need-letter-place-requires
-letter-place-requires c κs = search needs
-
 extent-at-requires : tie.Need-extent-at-requires
 extent-at-requires c κs = let l = c .before .before .before .pre .filled .agreed .placed .listed in let p = dimensions-ok _ _ (l .dimensions) in omega (arith, l .entry, p .x .within, c .letter-place .ensures)
 
-letter-place-requires-2 : tie.Need-letter-place-requires-2
-letter-place-requires-2 c κs = search needs
-
 extent-at-requires-2 : tie.Need-extent-at-requires-2
 extent-at-requires-2 c κs = let l = c .before .before .before .before .before .pre .filled .agreed .placed .listed in let p = dimensions-ok _ _ (l .dimensions) in omega (arith, l .entry, p .y .within, c .letter-place2 .ensures)
-
-layer-of-requires : tie.Need-layer-of-requires
-layer-of-requires c κs = search needs
-
-metadata-span-requires : tie.Need-metadata-span-requires
-metadata-span-requires c κs = search needs
-
-pixels-span-requires : tie.Need-pixels-span-requires
-pixels-span-requires c κs = search needs
-
-attachment-span-requires : tie.Need-attachment-span-requires
-attachment-span-requires c κs = search needs
-
-mask-of-requires : tie.Need-mask-of-requires
-mask-of-requires c κs = search needs
 
 add-u32-at : tie.Need-add-u32-at
 add-u32-at c = omega (arith, listed-in _ _ (c .before .before .before .before .before .before .before .before .before .before .before .pre .filled .agreed .placed .listed), c .before .before .before .before .before .before .before .before .before .before .before .good .1 .0 .0)
@@ -53,21 +32,21 @@ dimension-count-requires c κs = listed-in _ _ (c .before .before .before .befor
 returns : tie.Need-returns
 unfolding tileAt pixelType pyramidByte
 returns c =
-    rw (← c .before .before .before .before .before .before .before .before .before .before .before .letter-place .ensures, ← c .before .before .before .before .before .before .before .before .before .before .extent-at .ensures, ← c .before .before .before .before .before .before .before .before .before .letter-place2 .ensures, ← c .before .before .before .before .before .before .before .before .extent-at2 .ensures, ← c .before .before .before .before .before .before .before .layer-of .ensures, ← c .before .before .before .before .before .before .metadata-span .ensures, ← c .before .before .before .before .before .pixels-span .ensures, ← c .before .before .before .before .attachment-span .ensures, ← c .before .before .before .mask-of .ensures, ← c .before .before .u32-at .ensures .0, ← c .before .byte-at .ensures .0, ← c .dimension-count .ensures .0)
+    rw (← c .before .before .before .before .before .before .before .before .before .before .before .letter-place .ensures, ← c .before .before .before .before .before .before .before .before .before .before .extent-at .ensures, ← c .before .before .before .before .before .before .before .before .before .letter-place2 .ensures, ← c .before .before .before .before .before .before .before .before .extent-at2 .ensures, ← c .before .before .before .before .before .before .before .m-index-of .ensures, ← c .before .before .before .before .before .before .metadata-span .ensures, ← c .before .before .before .before .before .pixels-span .ensures, ← c .before .before .before .before .attachment-span .ensures, ← c .before .before .before .mask-of .ensures, ← c .before .before .u32-at .ensures .0, ← c .before .byte-at .ensures .0, ← c .dimension-count .ensures .0)
 
 pub tile-at-spec : {M : Type 1} → statement M
 tile-at-spec =
     tie.close
     (tie.spec
-    letter-place-requires
+    (λ c κs. search needs)
     extent-at-requires
-    letter-place-requires-2
+    (λ c κs. search needs)
     extent-at-requires-2
-    layer-of-requires
-    metadata-span-requires
-    pixels-span-requires
-    attachment-span-requires
-    mask-of-requires
+    (λ c κs. search needs)
+    (λ c κs. search needs)
+    (λ c κs. search needs)
+    (λ c κs. search needs)
+    (λ c κs. search needs)
     add-u32-at
     u32-at-requires
     add-byte-at

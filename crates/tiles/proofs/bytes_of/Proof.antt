@@ -7,18 +7,15 @@ use Rattle.subblocks.proofs.PartLaws.{listed-in}
 use Rattle.tiles.proofs.bytes_of.Statement.{statement}
 use Rattle.tiles.proofs.bytes_of.Tie as tie
 
-add-u32-at : tie.Need-add-u32-at
-add-u32-at c = omega (arith, listed-in _ _ (c .before .pre))
-
-u32-at-requires : tie.Need-u32-at-requires
-u32-at-requires c κs = omega (arith, listed-in _ _ (c .before .pre))
-
-pixel-bytes-requires : tie.Need-pixel-bytes-requires
-pixel-bytes-requires c κs = search needs
-
 returns : tie.Need-returns
 unfolding pixelType
 returns c = c .pixel-bytes .ensures ∙ ap pixelBytes (c .before .u32-at .ensures .0)
 
 pub bytes-of-spec : {M : Type 1} → statement M
-bytes-of-spec = tie.close (tie.spec add-u32-at u32-at-requires pixel-bytes-requires returns)
+bytes-of-spec =
+    tie.close
+    (tie.spec
+    (λ c. omega (arith, listed-in _ _ (c .before .pre)))
+    (λ c κs. omega (arith, listed-in _ _ (c .before .pre)))
+    (λ c κs. search needs)
+    returns)

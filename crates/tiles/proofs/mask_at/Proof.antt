@@ -6,12 +6,6 @@ use Rattle.subblocks.proofs.PartLaws.{listed-in}
 use Rattle.tiles.proofs.mask_at.Statement.{statement}
 use Rattle.tiles.proofs.mask_at.Tie as tie
 
-add-u64-at : tie.Need-add-u64-at
-add-u64-at c = omega (arith, listed-in _ _ (c .before .pre .filled .agreed .placed .listed))
-
-u64-at-requires : tie.Need-u64-at-requires
-u64-at-requires c κs = omega (arith, listed-in _ _ (c .before .pre .filled .agreed .placed .listed))
-
 mask-of-requires : tie.Need-mask-of-requires
 unfolding filePosition
 mask-of-requires c κs = rw (c .u64-at .ensures) (c .before .before .pre)
@@ -21,4 +15,10 @@ unfolding filePosition
 returns c = c .mask-of .ensures ∙ rw (c .before .u64-at .ensures)
 
 pub mask-at-spec : {M : Type 1} → statement M
-mask-at-spec = tie.close (tie.spec add-u64-at u64-at-requires mask-of-requires returns)
+mask-at-spec =
+    tie.close
+    (tie.spec
+    (λ c. omega (arith, listed-in _ _ (c .before .pre .filled .agreed .placed .listed)))
+    (λ c κs. omega (arith, listed-in _ _ (c .before .pre .filled .agreed .placed .listed)))
+    mask-of-requires
+    returns)

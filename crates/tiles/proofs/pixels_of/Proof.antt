@@ -8,12 +8,6 @@ use Rattle.subblocks.proofs.PartLaws.{listed-in}
 use Rattle.tiles.proofs.pixels_of.Statement.{statement}
 use Rattle.tiles.proofs.pixels_of.Tie as tie
 
-add-u64-at : tie.Need-add-u64-at
-add-u64-at c = omega (arith, listed-in _ _ (c .before .pre .agreed .placed .listed))
-
-u64-at-requires : tie.Need-u64-at-requires
-u64-at-requires c κs = omega (arith, listed-in _ _ (c .before .pre .agreed .placed .listed))
-
 pixels-span-requires : tie.Need-pixels-span-requires
 unfolding filePosition
 pixels-span-requires c κs = rw (c .u64-at .ensures) (c .before .before .pre)
@@ -23,4 +17,10 @@ unfolding pixelsSpan filePosition
 returns c = ap (λ (z : Span). z .start) (c .pixels-span .ensures) ∙ rw (c .before .u64-at .ensures)
 
 pub pixels-of-spec : {M : Type 1} → statement M
-pixels-of-spec = tie.close (tie.spec add-u64-at u64-at-requires pixels-span-requires returns)
+pixels-of-spec =
+    tie.close
+    (tie.spec
+    (λ c. omega (arith, listed-in _ _ (c .before .pre .agreed .placed .listed)))
+    (λ c κs. omega (arith, listed-in _ _ (c .before .pre .agreed .placed .listed)))
+    pixels-span-requires
+    returns)

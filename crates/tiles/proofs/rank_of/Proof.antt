@@ -7,26 +7,11 @@ use Rattle.tiles.specs.FileTile.{rankOf}
 use Rattle.tiles.proofs.rank_of.Statement.{statement}
 use Rattle.tiles.proofs.rank_of.Tie as tie
 
-holds-letter-requires : tie.Need-holds-letter-requires
-holds-letter-requires c κs = search needs
-
-letter-place-requires : tie.Need-letter-place-requires
-letter-place-requires c κs = search needs
-
 start-at-requires : tie.Need-start-at-requires
 start-at-requires c κs =
     let h = c .before .before in
     let p = letter-placed _ _ 77 (is-true _ _ (h .holds-letter .ensures) (c .before .if1 .taken)) in
     omega (arith, h .before .before .pre .0 .entry, p .within, c .letter-place .ensures)
-
-add-result : tie.Need-add-result
-add-result c = search needs
-
-mul-result : tie.Need-mul-result
-mul-result c = search needs
-
-add-result-2 : tie.Need-add-result-2
-add-result-2 c = search needs
 
 returns : tie.Need-returns
 unfolding rankOf
@@ -44,11 +29,11 @@ pub rank-of-spec : {M : Type 1} → statement M
 rank-of-spec =
     tie.close
     (tie.spec
-    holds-letter-requires
-    letter-place-requires
+    (λ c κs. search needs)
+    (λ c κs. search needs)
     start-at-requires
-    add-result
-    mul-result
-    add-result-2
+    (λ c. search needs)
+    (λ c. search needs)
+    (λ c. search needs)
     returns
     returns-2)

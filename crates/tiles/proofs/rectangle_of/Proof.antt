@@ -7,23 +7,8 @@ use Rattle.tiles.proofs.Rectangles.{x-in, y-in}
 use Rattle.tiles.proofs.rectangle_of.Statement.{statement}
 use Rattle.tiles.proofs.rectangle_of.Tie as tie
 
-letter-place-requires : tie.Need-letter-place-requires
-letter-place-requires c κs = search needs
-
-start-at-requires : tie.Need-start-at-requires
-start-at-requires c κs = omega (arith, x-in _ _ (c .before .before .pre), c .letter-place .ensures)
-
 add-u32-at : tie.Need-add-u32-at
 add-u32-at c = omega (arith, x-in _ _ (c .before .before .before .pre), c .before .letter-place .ensures, c .before .before .before .good .0 .0)
-
-u32-at-requires : tie.Need-u32-at-requires
-u32-at-requires c κs = omega (arith, x-in _ _ (c .before .before .before .pre), c .before .letter-place .ensures)
-
-letter-place-requires-2 : tie.Need-letter-place-requires-2
-letter-place-requires-2 c κs = search needs
-
-start-at-requires-2 : tie.Need-start-at-requires-2
-start-at-requires-2 c κs = omega (arith, y-in _ _ (c .before .before .before .before .before .pre), c .letter-place2 .ensures)
 
 add-u32-at-2 : tie.Need-add-u32-at-2
 add-u32-at-2 c =
@@ -50,12 +35,12 @@ pub rectangle-of-spec : {M : Type 1} → statement M
 rectangle-of-spec =
     tie.close
     (tie.spec
-    letter-place-requires
-    start-at-requires
+    (λ c κs. search needs)
+    (λ c κs. omega (arith, x-in _ _ (c .before .before .pre), c .letter-place .ensures))
     add-u32-at
-    u32-at-requires
-    letter-place-requires-2
-    start-at-requires-2
+    (λ c κs. omega (arith, x-in _ _ (c .before .before .before .pre), c .before .letter-place .ensures))
+    (λ c κs. search needs)
+    (λ c κs. omega (arith, y-in _ _ (c .before .before .before .before .before .pre), c .letter-place2 .ensures))
     add-u32-at-2
     u32-at-requires-2
     returns)

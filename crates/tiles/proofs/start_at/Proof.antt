@@ -7,18 +7,9 @@ use Rattle.tiles.proofs.Rectangles.{biased-fits}
 use Rattle.tiles.proofs.start_at.Statement.{statement}
 use Rattle.tiles.proofs.start_at.Tie as tie
 
-add-u32-at : tie.Need-add-u32-at
-add-u32-at c = search needs
-
-u32-at-requires : tie.Need-u32-at-requires
-u32-at-requires c κs = search needs
-
-biased-of-requires : tie.Need-biased-of-requires
-biased-of-requires c κs = search needs
-
 returns : tie.Need-returns
 unfolding start
 returns c = (c .biased-of .ensures ∙ ap biased (c .before .u32-at .ensures .0), rw (c .biased-of .ensures) (biased-fits _))
 
 pub start-at-spec : {M : Type 1} → statement M
-start-at-spec = tie.close (tie.spec add-u32-at u32-at-requires biased-of-requires returns)
+start-at-spec = tie.close (tie.spec (λ c. search needs) (λ c κs. search needs) (λ c κs. search needs) returns)

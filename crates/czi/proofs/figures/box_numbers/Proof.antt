@@ -4,17 +4,9 @@ use borrow.Author.Needs.{needs}
 use Rattle.czi.proofs.figures.box_numbers.Statement.{statement}
 use Rattle.czi.proofs.figures.box_numbers.Tie as tie
 
-enum-known-b : tie.Need-enum-known-b
-enum-known-b c = search needs
-
-enum-told : tie.Need-enum-told
-enum-told c = search needs
-
 returns : tie.Need-returns
 returns c = rw (read-back (c .before .b .given .0 .0) (c .known-told .given .0 .1), read-back (c .before .b .given .0 .1 .0) (c .known-told .given .1 .0 .1), read-back (c .before .b .given .0 .1 .1 .0) (c .known-told .given .1 .1 .0 .1), read-back (c .before .b .given .0 .1 .1 .1 .0) (c .known-told .given .1 .1 .1 .0 .1), c .before .b .given .1)
 
-returns-2 : tie.Need-returns-2
-returns-2 c = rw (c .enum-told .given .1)
-
 pub box-numbers-spec : {M : Type 1} → statement M
-box-numbers-spec = tie.close (tie.spec enum-known-b enum-told returns returns-2)
+box-numbers-spec =
+    tie.close (tie.spec (λ c. search needs) (λ c. search needs) returns (λ c. rw (c .enum-told .given .1)))

@@ -4,11 +4,9 @@ use borrow.Author.Needs.{needs}
 use Rattle.czi.proofs.figures.czi_list.Statement.{statement}
 use Rattle.czi.proofs.figures.czi_list.Tie as tie
 
-list-requires : tie.Need-list-requires
-list-requires c κs = search needs
-
-returns : tie.Need-returns
-returns c = text-out _ _ (c .before .list .ensures .0) (c .before .list .ensures .1)
-
 pub czi-list-spec : {M : Type 1} → statement M
-czi-list-spec = tie.close (tie.spec list-requires returns)
+czi-list-spec =
+    tie.close
+    (tie.spec
+    (λ c κs. search needs)
+    (λ c. text-out _ _ (c .before .list .ensures .0) (c .before .list .ensures .1)))

@@ -6,9 +6,6 @@ use borrow.Author.Needs.{needs}
 use Rattle.czi.proofs.figures.czi_summary.Statement.{statement}
 use Rattle.czi.proofs.figures.czi_summary.Tie as tie
 
-number-of-requires : tie.Need-number-of-requires
-number-of-requires c κs = search (summary-low, verdict-low)
-
 returns : tie.Need-returns
 returns c =
     let k = c .before .before .before .before .before .before in
@@ -26,5 +23,5 @@ czi-summary-spec =
     (λ c κs. search needs)
     (λ c κs. search needs)
     (λ c κs. search needs)
-    number-of-requires
+    (λ c κs. search (summary-low, verdict-low))
     returns)

@@ -6,9 +6,6 @@ use borrow.Author.Needs.{needs}
 use Rattle.czi.proofs.records.czi_dimension.Statement.{statement}
 use Rattle.czi.proofs.records.czi_dimension.Tie as tie
 
-number-of-requires : tie.Need-number-of-requires
-number-of-requires c κs = search (dimension-in-low, dimension-low)
-
 returns : tie.Need-returns
 returns c =
     dimension-out (c .number-of .ensures) (c .before .place-of .ensures) (c .before .before .before .before .before .dimension .ensures)
@@ -16,4 +13,12 @@ returns c =
     (read-back _ (c .before .before .struct-told .given .1 .0 .1))
 
 pub czi-dimension-spec : {M : Type 1} → statement M
-czi-dimension-spec = tie.close (tie.spec (λ c κs. search needs) (λ c κs. search needs) (λ c κs. search needs) (λ c κs. search needs) number-of-requires returns)
+czi-dimension-spec =
+    tie.close
+    (tie.spec
+    (λ c κs. search needs)
+    (λ c κs. search needs)
+    (λ c κs. search needs)
+    (λ c κs. search needs)
+    (λ c κs. search (dimension-in-low, dimension-low))
+    returns)

@@ -5,15 +5,6 @@ use borrow.Author.Needs.{needs}
 use Rattle.czi.proofs.records.czi_tile.Statement.{statement}
 use Rattle.czi.proofs.records.czi_tile.Tie as tie
 
-number-of-requires : tie.Need-number-of-requires
-number-of-requires c κs = search (tile-in-low, tile-low)
-
-returns : tie.Need-returns
-returns c = search tile-refused-out
-
-returns-2 : tie.Need-returns-2
-returns-2 c = search tile-found-out
-
 pub czi-tile-spec : {M : Type 1} → statement M
 czi-tile-spec =
     tie.close
@@ -21,9 +12,9 @@ czi-tile-spec =
     (λ c κs. search needs)
     (λ c. search needs)
     (λ c κs. search needs)
-    number-of-requires
+    (λ c κs. search (tile-in-low, tile-low))
     (λ c. search needs)
     (λ c κs. search needs)
     (λ c κs. search needs)
-    returns
-    returns-2)
+    (λ c. search tile-refused-out)
+    (λ c. search tile-found-out))

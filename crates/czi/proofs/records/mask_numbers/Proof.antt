@@ -3,17 +3,11 @@ use borrow.Author.Needs.{needs}
 use Rattle.czi.proofs.records.mask_numbers.Statement.{statement}
 use Rattle.czi.proofs.records.mask_numbers.Tie as tie
 
-enum-known-m : tie.Need-enum-known-m
-enum-known-m c = search needs
-
-enum-told : tie.Need-enum-told
-enum-told c = search needs
-
-returns : tie.Need-returns
-returns c = rw (c .before .m .given .1)
-
-returns-2 : tie.Need-returns-2
-returns-2 c = rw (c .enum-told .given .1)
-
 pub mask-numbers-spec : {M : Type 1} → statement M
-mask-numbers-spec = tie.close (tie.spec enum-known-m enum-told returns returns-2)
+mask-numbers-spec =
+    tie.close
+    (tie.spec
+    (λ c. search needs)
+    (λ c. search needs)
+    (λ c. rw (c .before .m .given .1))
+    (λ c. rw (c .enum-told .given .1)))

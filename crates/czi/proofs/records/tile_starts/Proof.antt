@@ -5,12 +5,9 @@ use borrow.Author.Needs.{needs}
 use Rattle.czi.proofs.records.tile_starts.Statement.{statement}
 use Rattle.czi.proofs.records.tile_starts.Tie as tie
 
-layer-numbers-requires : tie.Need-layer-numbers-requires
-layer-numbers-requires c κs = search needs
-
 returns : tie.Need-returns
 unfolding tileStarts
-returns c = rw (read-back (c .before .before .before .before .before .before .args .t .x .start) (c .before .before .struct-told .given .0 .1), read-back (c .before .before .before .before .before .before .args .t .y .start) (c .before .struct-told2 .given .0 .1), read-back (c .before .before .before .layer-numbers .result .start) (c .struct-told3 .given .1 .0 .1), c .before .before .before .layer-numbers .ensures)
+returns c = rw (read-back (c .before .before .before .before .before .before .args .t .x .start) (c .before .before .struct-told .given .0 .1), read-back (c .before .before .before .before .before .before .args .t .y .start) (c .before .struct-told2 .given .0 .1), read-back (c .before .before .before .m-index-numbers .result .start) (c .struct-told3 .given .1 .0 .1), c .before .before .before .m-index-numbers .ensures)
 
 pub tile-starts-spec : {M : Type 1} → statement M
-tile-starts-spec = tie.close (tie.spec layer-numbers-requires returns)
+tile-starts-spec = tie.close (tie.spec (λ c κs. search needs) returns)

@@ -6,4 +6,10 @@ use Rattle.czi.proofs.verdict.czi_judge.Statement.{statement}
 use Rattle.czi.proofs.verdict.czi_judge.Tie as tie
 
 pub czi-judge-spec : {M : Type 1} → statement M
-czi-judge-spec = tie.close (tie.spec (λ c κs. search needs) (λ c κs. search needs) (λ c κs. search (answered-low, verdict-low)) (λ c. search verdict-out))
+czi-judge-spec =
+    tie.close
+    (tie.spec
+    (λ c κs. search needs)
+    (λ c κs. search needs)
+    (λ c κs. search (answered-low, verdict-low))
+    (λ c. search verdict-out))

@@ -5,8 +5,10 @@ use borrow.Author.Needs.{needs}
 use Rattle.czi.proofs.verdict.czi_pixel_bytes.Statement.{statement}
 use Rattle.czi.proofs.verdict.czi_pixel_bytes.Tie as tie
 
-cast-result : tie.Need-cast-result
-cast-result c = omega (arith, c .pixel-bytes .ensures, pixel-bytes-few (c .before .args .pixel-type))
-
 pub czi-pixel-bytes-spec : {M : Type 1} → statement M
-czi-pixel-bytes-spec = tie.close (tie.spec (λ c κs. search needs) cast-result (λ c. search needs))
+czi-pixel-bytes-spec =
+    tie.close
+    (tie.spec
+    (λ c κs. search needs)
+    (λ c. omega (arith, c .pixel-bytes .ensures, pixel-bytes-few (c .before .args .pixel-type)))
+    (λ c. search needs))

@@ -5,12 +5,6 @@ use borrow.Author.Needs.{needs}
 use Rattle.czi.proofs.views.czi_attachment_data.Statement.{statement}
 use Rattle.czi.proofs.views.czi_attachment_data.Tie as tie
 
-number-of-requires : tie.Need-number-of-requires
-number-of-requires c κs = search (span-low, attachment-verdict-low)
-
-returns : tie.Need-returns
-returns c = search span-out
-
 pub czi-attachment-data-spec : {M : Type 1} → statement M
 czi-attachment-data-spec =
     tie.close
@@ -19,5 +13,5 @@ czi-attachment-data-spec =
     (λ c κs. search needs)
     (λ c κs. search needs)
     (λ c κs. search needs)
-    number-of-requires
-    returns)
+    (λ c κs. search (span-low, attachment-verdict-low))
+    (λ c. search span-out))

@@ -5,12 +5,6 @@ use borrow.Author.Needs.{needs}
 use Rattle.czi.proofs.views.czi_common_xml.Statement.{statement}
 use Rattle.czi.proofs.views.czi_common_xml.Tie as tie
 
-number-of-requires : tie.Need-number-of-requires
-number-of-requires c κs = search (span-low, verdict-low)
-
-returns : tie.Need-returns
-returns c = search span-out
-
 pub czi-common-xml-spec : {M : Type 1} → statement M
 czi-common-xml-spec =
     tie.close
@@ -19,5 +13,5 @@ czi-common-xml-spec =
     (λ c κs. search needs)
     (λ c κs. search needs)
     (λ c κs. search needs)
-    number-of-requires
-    returns)
+    (λ c κs. search (span-low, verdict-low))
+    (λ c. search span-out))

@@ -1,9 +1,9 @@
--- `tiles::paint_masked` meets its contract.
+-- `tiles::paint_entry_masked` meets its contract.
 use native.Mathlib.Omega.{arith}
 use Rattle.tiles.proofs.EntryTiles.{mask-lined, lines-room, painted-masked}
 use borrow.Author.Needs.{needs}
-use Rattle.tiles.proofs.paint_masked.Statement.{statement}
-use Rattle.tiles.proofs.paint_masked.Tie as tie
+use Rattle.tiles.proofs.paint_entry_masked.Statement.{statement}
+use Rattle.tiles.proofs.paint_entry_masked.Tie as tie
 
 add-from : tie.Need-add-from
 add-from c = let a = c .before .before .before in omega (arith, mask-lined _ _ _ _ _ (a .pre .0 .judged) (a .pre .1) .lines)
@@ -14,17 +14,8 @@ sub-paint-behind c = let a = c .before .before .before .before .before in omega 
 part-paint-behind-start : tie.Need-part-paint-behind-start
 part-paint-behind-start c = let a = c .before .before .before .before .before in omega (arith, mask-lined _ _ _ _ _ (a .pre .0 .judged) (a .pre .1) .lines)
 
-part-paint-behind-end : tie.Need-part-paint-behind-end
-part-paint-behind-end c = search needs
-
 paint-behind-requires : tie.Need-paint-behind-requires
 paint-behind-requires c κs = let a = c .before .before .before .before .before .before in (a .pre .0, lines-room _ _ _ (mask-lined _ _ _ _ _ (a .pre .0 .judged) (a .pre .1)) _ (omega arith))
-
-same-length : tie.Need-same-length
-same-length c = search needs
-
-same-length-2 : tie.Need-same-length-2
-same-length-2 c = search needs
 
 returns : tie.Need-returns
 returns c =
@@ -32,15 +23,15 @@ returns c =
     let a = d .before .before .before .before .before .before .before in
     painted-masked _ _ _ _ _ _ _ _ _ _ _ (a .pre .1) (mask-lined _ _ _ _ _ (a .pre .0 .judged) (a .pre .1) .shape-is) _ (omega arith) (d .paint-behind .ensures)
 
-pub paint-masked-spec : {M : Type 1} → statement M
-paint-masked-spec =
+pub paint-entry-masked-spec : {M : Type 1} → statement M
+paint-entry-masked-spec =
     tie.close
     (tie.spec
     add-from
     sub-paint-behind
     part-paint-behind-start
-    part-paint-behind-end
+    (λ c. search needs)
     paint-behind-requires
-    same-length
-    same-length-2
+    (λ c. search needs)
+    (λ c. search needs)
     returns)

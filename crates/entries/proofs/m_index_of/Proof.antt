@@ -1,17 +1,17 @@
--- `entries::layer_of` meets its contract.
+-- `entries::m_index_of` meets its contract.
 use mathlib.Core.Path.{sym, _∙_}
 use native.Mathlib.Omega.{arith}
 use borrow.Author.Needs.{needs}
 use Rattle.format.specs.Entry.{start}
-use Rattle.format.specs.Records.{layerOf}
+use Rattle.format.specs.Records.{mIndexOf}
 use Rattle.entries.proofs.EntryLaws.{letter-placed}
 use Rattle.entries.proofs.ReadBack.{read-back}
-use Rattle.entries.proofs.layer_of.Statement.{statement}
-use Rattle.entries.proofs.layer_of.Tie as tie
+use Rattle.entries.proofs.m_index_of.Statement.{statement}
+use Rattle.entries.proofs.m_index_of.Tie as tie
 
-pub layer-of-spec : {M : Type 1} → statement M
-unfolding layerOf start
-layer-of-spec =
+pub m-index-of-spec : {M : Type 1} → statement M
+unfolding mIndexOf start
+m-index-of-spec =
     tie.close
     (tie.spec
     (λ c κs. search needs)

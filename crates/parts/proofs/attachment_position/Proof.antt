@@ -1,13 +1,10 @@
--- `parts::attachment_place` meets its contract.
+-- `parts::attachment_position` meets its contract.
 use native.Mathlib.Omega.{arith}
 use Rattle.format.specs.File.{attachmentDirectoryPosition}
 use Rattle.format.specs.Attachments.{attachmentEntry, attachmentPosition}
 use Rattle.parts.proofs.Numbered.{attachment-there}
-use Rattle.parts.proofs.attachment_place.Statement.{statement}
-use Rattle.parts.proofs.attachment_place.Tie as tie
-
-u64-at-requires : tie.Need-u64-at-requires
-u64-at-requires c κs = omega (arith, attachment-there _ _ (c .before .pre) .long)
+use Rattle.parts.proofs.attachment_position.Statement.{statement}
+use Rattle.parts.proofs.attachment_position.Tie as tie
 
 add-e : tie.Need-add-e
 unfolding attachmentEntry attachmentDirectoryPosition
@@ -33,6 +30,14 @@ returns : tie.Need-returns
 unfolding attachmentPosition attachmentEntry attachmentDirectoryPosition
 returns c = rw (← c .before .u64-at .ensures) (c .u64-at2 .ensures)
 
-pub attachment-place-spec : {M : Type 1} → statement M
-attachment-place-spec =
-    tie.close (tie.spec u64-at-requires add-e mul-e add-e-2 add-u64-at u64-at-requires-2 returns)
+pub attachment-position-spec : {M : Type 1} → statement M
+attachment-position-spec =
+    tie.close
+    (tie.spec
+    (λ c κs. omega (arith, attachment-there _ _ (c .before .pre) .long))
+    add-e
+    mul-e
+    add-e-2
+    add-u64-at
+    u64-at-requires-2
+    returns)

@@ -1,0 +1,16 @@
+-- `tiles::paint_entry_open` meets its contract.
+use mathlib.Core.Path.{refl}
+use Rattle.tiles.proofs.EntryTiles.{painted-open}
+use borrow.Author.Needs.{needs}
+use Rattle.tiles.proofs.paint_entry_open.Statement.{statement}
+use Rattle.tiles.proofs.paint_entry_open.Tie as tie
+
+pub paint-entry-open-spec : {M : Type 1} → statement M
+paint-entry-open-spec =
+    tie.close
+    (tie.spec
+    (λ c. search needs)
+    (λ c κs. search needs)
+    (λ c. search needs)
+    (λ c. search needs)
+    (λ c. painted-open _ _ _ _ _ _ _ _ _ _ _ refl (c .before .before .before .before .paint-behind .ensures)))
