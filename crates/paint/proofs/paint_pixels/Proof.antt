@@ -22,7 +22,9 @@ bytes : (s : tie.After-shared-slice-known2 Inv-loop μ-loop) → Bytes (s .befor
 bytes s k = s .before .before .slice-known2 .given k .fits
 
 -- the pixel after this one ends within the row
-ends : (l : tie.In-loop Inv-loop μ-loop) → let s = l .before .before .before .before .before .before in (l .before .loop .k + 1) * s .args .b ≤ s .args .j * s .args .b
+ends : (l : tie.In-loop Inv-loop μ-loop)
+    → let s = l .before .before .before .before .before .before in
+    (l .before .loop .k + 1) * s .args .b ≤ s .args .j * s .args .b
 ends l = mul-le-mul-right (l .before .before .before .before .before .before .args .b) (omega arith)
 
 mul-a : tie.Need-mul-a Inv-loop μ-loop
@@ -34,8 +36,10 @@ loop-holds c = let s = c .before .before .before .before in (omega arith, s .pre
 paint-pixel-requires : tie.Need-paint-pixel-requires Inv-loop μ-loop
 paint-pixel-requires c κs =
     let l = c .before .before in
-    let v = l .before .loop in
-    (room-less (room-kept (l .before .before .before .before .before .before .pre .row) (span-target (v .inv .3)) (span-map (v .inv .3))) _ (omega arith), v .inv .2)
+    let v = l .before .loop in (
+      room-less (room-kept (l .before .before .before .before .before .before .pre .row) (span-target (v .inv .3)) (span-map (v .inv .3))) _ (omega arith),
+      v .inv .2,
+    )
 
 add-given : tie.Need-add-given Inv-loop μ-loop
 add-given c =
@@ -65,7 +69,8 @@ returns : tie.Need-returns Inv-loop μ-loop
 returns c =
     let v = c .before .loop in
     let a = c .before .before .before .before .before .before .args in
-    subst (λ (k : ℕ). SpanPainted (a .dst .now) (a .map .now) (a .first) (a .src .now) (a .b) (a .i) k (a .masked) (a .line .now) (a .mw) (a .x) (a .quick) (v .dst) (v .map) (v .given))
+    subst (λ (k : ℕ). SpanPainted (a .dst .now) (a .map .now) (a .first) (a .src .now) (a .b) (a .i) k (a .masked) (a .line .now) (a .mw) (a .x) (a .quick)
+    (v .dst) (v .map) (v .given))
     (omega arith) (v .inv .3)
 
 pub paint-pixels-spec : {M : Type 1} → statement M

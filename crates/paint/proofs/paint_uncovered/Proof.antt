@@ -51,7 +51,8 @@ returns : tie.Need-returns Inv-loop μ-loop
 returns c =
     let v = c .before .loop in
     let a = c .before .before .before .before .before .before .args in
-    subst (λ (k : ℕ). SpanPainted (a .dst .now) (a .map .now) (a .first) (a .src .now) (a .b) 0 k (a .masked) (a .line .now) (a .mw) (a .x) true (v .dst) (v .map) (v .given))
+    subst (λ (k : ℕ). SpanPainted (a .dst .now) (a .map .now) (a .first) (a .src .now) (a .b) 0 k (a .masked) (a .line .now) (a .mw) (a .x) true (v .dst)
+    (v .map) (v .given))
     (omega arith) (v .inv .1)
 
 pub paint-uncovered-spec : {M : Type 1} → statement M
