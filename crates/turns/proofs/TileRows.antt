@@ -62,10 +62,8 @@ clipped w a = record { left = refl; right = refl; top = refl; bottom = refl }
 -- what a row's numbers are
 pub record Numbers (t₀ m₀ : List ℕ) (w a : Rect) (src : List ℕ) (k : Mask) (b n x col y : ℕ) (t m : List ℕ) (g : ℕ) : Type 0 where
   pub above : a .top ≤ y + w .top
-  pub row : y + w .top - a .top < a .height
   pub fits : y * w .width + w .width ≤ w .height * w .width
   pub width : col + n ≤ w .width
-  pub source : (y + w .top - a .top) * a .width + a .width ≤ a .height * a .width
   pub columns : x + n ≤ a .width
   pub area : w .height * w .width < 2 ^ 64
   pub target : w .height * w .width * b ≤ length t
@@ -102,10 +100,8 @@ module _ {t₀ m₀ : List ℕ} {w a : Rect} {src : List ℕ} {b : ℕ} {k : Mas
       le-trans (rw (add-mul ((y + w .top - a .top) * a .width + x) n b) at (mul-le-mul-right b (more (y + w .top - a .top) src-end cols))) (o .room .source) in
       record {
         above = omega arith;
-        row = row;
         fits = fits;
         width = wide;
-        source = src-end;
         columns = cols;
         area = all;
         target = rw rows-target (o .room .room .target);
