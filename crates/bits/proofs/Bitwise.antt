@@ -1,7 +1,8 @@
 -- The bits of a byte made by `|` or `^`, and of the bytes whose set bits are one run.
 use mathlib.Core.Path.{_≡_, refl, sym, ap, ap₂, _∙_}
+use mathlib.Core.Logic.{by-cases}
 use Prim.Native.Nat.{ℕ, zero, suc, _+_, _-_, _/_, _%_, _^_, _≤_, _<_}
-use native.Mathlib.Nat.{lt-of-not-le, div-eq-of-lt}
+use native.Mathlib.Nat.{div-eq-of-lt}
 use native.Mathlib.Decide.{decLt, decLe}
 use native.Mathlib.Omega.{arith}
 use mathlib.Core.Bool.{Bool, true, false, xor, _&&_, _||_}
@@ -47,13 +48,10 @@ odd = each8 (λ e. eqb (255 / 2 ^ e % 2) 1 ≡ true) refl refl refl refl refl re
 
 ones-bit : (s i : ℕ) → i < 8 → bitIn (255 / 2 ^ s) i ≡ leb s i
 unfolding bitIn
-ones-bit s i l = ap (λ (z : ℕ). eqb (z % 2) 1) (shr-shr 255 s (7 - i)) ∙ go (decLe s i)
-  where
-    go : Dec (s ≤ i) → eqb (255 / 2 ^ (s + (7 - i)) % 2) 1 ≡ leb s i
-    go (yes h) = odd (s + (7 - i)) (omega arith) ∙ sym (le-leb s i h)
-    go (no h) =
-        ap (λ (z : ℕ). eqb (z % 2) 1) (div-eq-of-lt (pow-mono {i = 8} {j = s + (7 - i)} (omega arith)))
-        ∙ sym (lt-leb s i (lt-of-not-le h))
+ones-bit s i l =
+    ap (λ (z : ℕ). eqb (z % 2) 1) (shr-shr 255 s (7 - i))
+    ∙ by-cases (decLe s i) (λ h. odd (s + (7 - i)) (omega arith) ∙ sym (le-leb s i h))
+    (λ h. ap (λ (z : ℕ). eqb (z % 2) 1) (div-eq-of-lt (pow-mono {i = 8} {j = s + (7 - i)} (omega arith))) ∙ sym (lt-leb s i (omega arith)))
 
 -- the byte whose set bits are those from number s up to number t
 module _ (s t : ℕ) (h : s ≤ t) where
@@ -64,13 +62,15 @@ module _ (s t : ℕ) (h : s ≤ t) where
   unfolding xor
   run-packs =
       same-bits _ _ run-lt (pack-lt _)
-      (λ i l. xor-bit (255 / 2 ^ s) (255 / 2 ^ t) i ∙ ap₂ xor (ones-bit s i l) (ones-bit t i l) ∙ between i (decLe s i) (decLt i t)
+      (λ i l. xor-bit (255 / 2 ^ s) (255 / 2 ^ t) i ∙ ap₂ xor (ones-bit s i l) (ones-bit t i l) ∙ between i
       ∙ sym (bit-pack (λ i. leb s i && ltb i t) i l))
     where
-      between : (i : ℕ) → Dec (s ≤ i) → Dec (i < t) → xor (leb s i) (leb t i) ≡ (leb s i && ltb i t)
-      between i (yes a) (yes b) = rw (le-leb s i a, lt-leb t i b, lt-ltb i t b)
-      between i (yes a) (no b) = rw (le-leb s i a, le-leb t i (omega (arith, lt-of-not-le b)), le-ltb i t (omega (arith, lt-of-not-le b)))
-      between i (no a) b = rw (lt-leb s i (lt-of-not-le a), lt-leb t i (omega (arith, lt-of-not-le a)))
+      between : (i : ℕ) → xor (leb s i) (leb t i) ≡ (leb s i && ltb i t)
+      between i =
+          by-cases (decLe s i)
+          (λ a. by-cases (decLt i t) (λ b. rw (le-leb s i a, lt-leb t i b, lt-ltb i t b))
+          (λ b. rw (le-leb s i a, le-leb t i (omega arith), le-ltb i t (omega arith))))
+          (λ a. rw (lt-leb s i (omega arith), lt-leb t i (omega arith)))
 
 -- the byte whose one set bit is number i
 pub one-packs : (i : ℕ) → i < 8 → 128 / 2 ^ i ≡ pack (λ j. leb i j && ltb j (i + 1))

@@ -1,7 +1,7 @@
 -- A range of a bit string marked: one byte's part of it, and two ranges that meet.
 use mathlib.Core.Path.{_≡_, sym, ap, ap₂, _∙_}
+use mathlib.Core.Logic.{by-cases}
 use Prim.Native.Nat.{ℕ, _+_, _*_, _/_, _%_, _^_, _≤_, _<_}
-use native.Mathlib.Nat.{lt-of-not-le}
 use native.Mathlib.Decide.{decLt, decLe, ℕ-discrete}
 use native.Mathlib.Omega.{arith}
 use mathlib.Core.List.{List}
@@ -25,19 +25,19 @@ stored : (m : List ℕ) → Bytes m → (n : ℕ) (on : ℕ → Bool) (k v : ℕ
     → set m k v ≡ mark n on m
 unfolding bit
 stored m h n on k v l hv inside outside =
-    same-map (set m k v) (mark n on m) (length-set m k v ∙ sym (mark-length n on m)) (λ c. byte c (ℕ-discrete c k)) (mark-bytes n on m h)
-    (λ q b. same q (ℕ-discrete (q / 8) k) ∙ sym (mark-bit n on m q (rw (← length-set m k v) b)))
+    same-map (set m k v) (mark n on m) (length-set m k v ∙ sym (mark-length n on m)) byte (mark-bytes n on m h)
+    (λ q b. same q ∙ sym (mark-bit n on m q (rw (← length-set m k v) b)))
   where
-    byte : (c : ℕ) → Dec (c ≡ k) → getD (set m k v) c 0 < 256
-    byte c (yes e) = rw (e, getD-set-same m k v 0 l) hv
-    byte c (no e) = rw (getD-set-other m k c v 0 e) (h c)
+    byte : (c : ℕ) → getD (set m k v) c 0 < 256
+    byte c = by-cases (ℕ-discrete c k) (λ e. rw (e, getD-set-same m k v 0 l) hv) (λ e. rw (getD-set-other m k c v 0 e) (h c))
 
-    same : (q : ℕ) → Dec (q / 8 ≡ k) → bit (set m k v) q ≡ ((ltb q n && on q) || bit m q)
-    same q (yes e) =
-        ap (λ (x : ℕ). bitIn x (q % 8)) (ap (λ (c : ℕ). getD (set m k v) c 0) e ∙ getD-set-same m k v 0 l)
+    same : (q : ℕ) → bit (set m k v) q ≡ ((ltb q n && on q) || bit m q)
+    same q =
+        by-cases (ℕ-discrete (q / 8) k)
+        (λ e. ap (λ (x : ℕ). bitIn x (q % 8)) (ap (λ (c : ℕ). getD (set m k v) c 0) e ∙ getD-set-same m k v 0 l)
         ∙ inside (q % 8) (omega arith)
-        ∙ ap (λ (z : ℕ). (ltb z n && on z) || bit m z) (omega arith)
-    same q (no e) = rw (getD-set-other m k (q / 8) v 0 e, outside q e)
+        ∙ ap (λ (z : ℕ). (ltb z n && on z) || bit m z) (omega arith))
+        (λ e. rw (getD-set-other m k (q / 8) v 0 e, outside q e))
 
 -- a byte `|` v
 pub or-marks : (m : List ℕ) → Bytes m → (k v : ℕ) → k < length m → v < 256
@@ -45,14 +45,14 @@ pub or-marks : (m : List ℕ) → Bytes m → (k v : ℕ) → k < length m → v
 or-marks m h k v l hv =
     stored m h (8 * k + 8) _ k (bitOr (getD m k 0) v) l (or-lt 8 (getD m k 0) v (h k) hv)
     (λ i b. or-bit (getD m k 0) v i ∙ or-comm (bitIn (getD m k 0) i) (bitIn v i) ∙ ap₂ _||_ (here i b) (cell k i b m))
-    (λ q e. there q e (decLt q (8 * k + 8)))
+    there
   where
     here : (i : ℕ) → i < 8 → bitIn v i ≡ (ltb (8 * k + i) (8 * k + 8) && (leb (8 * k) (8 * k + i) && bitIn v ((8 * k + i) % 8)))
     here i b = rw (lt-ltb (8 * k + i) (8 * k + 8) (omega arith), le-leb (8 * k) (8 * k + i) (omega arith)) (ap (bitIn v) (omega arith))
 
-    there : (q : ℕ) → (q / 8 ≡ k → ⊥) → Dec (q < 8 * k + 8) → (ltb q (8 * k + 8) && (leb (8 * k) q && bitIn v (q % 8))) ≡ false
-    there q e (yes b) = rw (lt-leb (8 * k) q (omega arith)) (and-false (ltb q (8 * k + 8)))
-    there q e (no b) = rw (le-ltb q (8 * k + 8) (omega arith))
+    there : (q : ℕ) → (q / 8 ≡ k → ⊥) → (ltb q (8 * k + 8) && (leb (8 * k) q && bitIn v (q % 8))) ≡ false
+    there q e =
+        by-cases (decLt q (8 * k + 8)) (λ b. rw (lt-leb (8 * k) q (omega arith)) (and-false (ltb q (8 * k + 8)))) (λ b. rw (le-ltb q (8 * k + 8) (omega arith)))
 
 -- ---- ranges
 
@@ -78,16 +78,17 @@ module _ (m : List ℕ) (h : Bytes m) where
       (mark-bytes c _ _ (mark-bytes b _ m h)) (mark-bytes c _ m h)
       (λ q x. let y : q < 8 * length (mark b (λ q. leb a q) m) = rw (← mark-length c (λ q. leb b q) (mark b (λ q. leb a q) m)) x in
       let z : q < 8 * length m = rw (← mark-length b (λ q. leb a q) m) y in
-      mark-bit c _ _ q y ∙ ap (λ (t : Bool). (ltb q c && leb b q) || t) (mark-bit b _ m q z) ∙ joins q (decLt q b) ∙ sym (mark-bit c _ m q z))
+      mark-bit c _ _ q y ∙ ap (λ (t : Bool). (ltb q c && leb b q) || t) (mark-bit b _ m q z) ∙ joins q ∙ sym (mark-bit c _ m q z))
     where
-      joins : (q : ℕ) → Dec (q < b) → ((ltb q c && leb b q) || ((ltb q b && leb a q) || bit m q)) ≡ ((ltb q c && leb a q) || bit m q)
-      joins q (yes l) = rw (lt-ltb q c (omega arith), lt-leb b q l, lt-ltb q b l)
-      joins q (no l) = rw (le-leb b q (omega arith), le-ltb q b (omega arith), le-leb a q (omega arith))
+      joins : (q : ℕ) → ((ltb q c && leb b q) || ((ltb q b && leb a q) || bit m q)) ≡ ((ltb q c && leb a q) || bit m q)
+      joins q =
+          by-cases (decLt q b) (λ l. rw (lt-ltb q c (omega arith), lt-leb b q l, lt-ltb q b l))
+          (λ l. rw (le-leb b q (omega arith), le-ltb q b (omega arith), le-leb a q (omega arith)))
 
   -- the same by equations: m′ is marked up to b, and m″ is m′ marked from there up to c
-  pub range-then : {m′ m″ : List ℕ} (a b b′ c : ℕ) → a ≤ b → b ≡ b′ → b′ ≤ c → m′ ≡ mark b (λ q. leb a q) m → m″ ≡ mark c (λ q. leb b′ q) m′
+  pub range-then : {m′ m″ : List ℕ} {a b b′ c : ℕ} → a ≤ b → b ≡ b′ → b′ ≤ c → m′ ≡ mark b (λ q. leb a q) m → m″ ≡ mark c (λ q. leb b′ q) m′
       → m″ ≡ mark c (λ q. leb a q) m
-  range-then a b b′ c ab e bc g g′ =
+  range-then {a = a} {b} {b′} {c} ab e bc g g′ =
       g′ ∙ ap₂ (λ (z : ℕ) (l : List ℕ). mark c (λ q. leb z q) l) (sym e) g ∙ range-add a b c ab (omega arith)
 
   -- the bits from number s up to number t of byte k
@@ -96,20 +97,21 @@ module _ (m : List ℕ) (h : Bytes m) where
   range-part k s t l v e =
       mark-same (8 * k + 8) (8 * k + t) _ _
       (λ q. ap (λ (x : Bool). ltb q (8 * k + 8) && (leb (8 * k) q && x)) (ap (λ (y : ℕ). bitIn y (q % 8)) e ∙ bit-pack _ (q % 8) (omega arith))
-      ∙ same q (decLt q (8 * k + 8)) (decLe (8 * k) q) (decLe s (q % 8)) (decLt (q % 8) t))
+      ∙ same q)
     where
-      same : (q : ℕ) → Dec (q < 8 * k + 8) → Dec (8 * k ≤ q) → Dec (s ≤ q % 8) → Dec (q % 8 < t)
-          → (ltb q (8 * k + 8) && (leb (8 * k) q && (leb s (q % 8) && ltb (q % 8) t))) ≡ (ltb q (8 * k + t) && leb (8 * k + s) q)
-      same q (yes a) (yes b) (yes c) (yes d) =
-          rw (lt-ltb q (8 * k + 8) a, le-leb (8 * k) q b, le-leb s (q % 8) c, lt-ltb (q % 8) t d, lt-ltb q (8 * k + t) (omega arith), le-leb (8 * k + s) q (omega arith))
-      same q (yes a) (yes b) (yes c) (no d) =
-          rw (lt-ltb q (8 * k + 8) a, le-leb (8 * k) q b, le-leb s (q % 8) c, le-ltb (q % 8) t (omega arith), le-ltb q (8 * k + t) (omega arith))
-      same q (yes a) (yes b) (no c) d =
-          rw (lt-ltb q (8 * k + 8) a, le-leb (8 * k) q b, lt-leb s (q % 8) (lt-of-not-le c), lt-leb (8 * k + s) q (omega arith))
-          (sym (and-false (ltb q (8 * k + t))))
-      same q (yes a) (no b) c d =
-          rw (lt-ltb q (8 * k + 8) a, lt-leb (8 * k) q (lt-of-not-le b), lt-leb (8 * k + s) q (omega arith)) (sym (and-false (ltb q (8 * k + t))))
-      same q (no a) b c d = rw (le-ltb q (8 * k + 8) (omega arith), le-ltb q (8 * k + t) (omega arith))
+      same : (q : ℕ) → (ltb q (8 * k + 8) && (leb (8 * k) q && (leb s (q % 8) && ltb (q % 8) t))) ≡ (ltb q (8 * k + t) && leb (8 * k + s) q)
+      same q =
+          by-cases (decLt q (8 * k + 8))
+          (λ a. by-cases (decLe (8 * k) q)
+          (λ b. by-cases (decLe s (q % 8))
+          (λ c. by-cases (decLt (q % 8) t)
+          (λ d. rw (lt-ltb q (8 * k + 8) a, le-leb (8 * k) q b, le-leb s (q % 8) c, lt-ltb (q % 8) t d)
+          (rw (lt-ltb q (8 * k + t) (omega arith), le-leb (8 * k + s) q (omega arith))))
+          (λ d. rw (lt-ltb q (8 * k + 8) a, le-leb (8 * k) q b, le-leb s (q % 8) c, le-ltb (q % 8) t (omega arith), le-ltb q (8 * k + t) (omega arith))))
+          (λ c. rw (lt-ltb q (8 * k + 8) a, le-leb (8 * k) q b, lt-leb s (q % 8) (omega arith), lt-leb (8 * k + s) q (omega arith))
+          (sym (and-false (ltb q (8 * k + t))))))
+          (λ b. rw (lt-ltb q (8 * k + 8) a, lt-leb (8 * k) q (omega arith), lt-leb (8 * k + s) q (omega arith)) (sym (and-false (ltb q (8 * k + t))))))
+          (λ a. rw (le-ltb q (8 * k + 8) (omega arith), le-ltb q (8 * k + t) (omega arith)))
 
   -- one bit
   pub range-one : (p : ℕ) → mark (8 * (p / 8) + 8) (λ q. leb (8 * (p / 8)) q && bitIn (128 / 2 ^ (p % 8)) (q % 8)) m ≡ mark (p + 1) (λ q. leb p q) m

@@ -28,7 +28,8 @@ period-sum f k w p q i = ap f (add-assoc k w i) ∙ p (w + i) ∙ q i
 -- the next step's width
 wider-bounds : (w r : ℕ) → r ≡ cond (leb w (blockSize / 2)) (w + w) w → w ≤ blockSize → (w ≤ r) × (r ≤ w + w) × (r ≤ blockSize)
 wider-bounds w r e h =
-    rw e (cond-case (λ x. (w ≤ x) × (x ≤ w + w) × (x ≤ blockSize)) (leb w (blockSize / 2)) (λ l. (omega arith, omega arith, omega (arith, leb-true w (blockSize / 2) l))) (λ l. (omega arith, omega arith, h)))
+    rw e (cond-case (λ x. (w ≤ x) × (x ≤ w + w) × (x ≤ blockSize)) (leb w (blockSize / 2))
+    (λ l. (omega arith, omega arith, omega (arith, leb-true w (blockSize / 2) l))) (λ l. (omega arith, omega arith, h)))
 
 period-wider : (f : ℕ → ℕ) (w r : ℕ) → r ≡ cond (leb w (blockSize / 2)) (w + w) w → Period f w → Period f r
 period-wider f w r e p = rw e (cond-case (Period f) (leb w (blockSize / 2)) (λ l. period-sum f w w p p) (λ l. p))
@@ -70,8 +71,8 @@ pub record Repeating (t : List ℕ) (b end : ℕ) (r : List ℕ) (w k : ℕ) : T
   pub bytes : r ≡ front (λ i. getD t (i % b) 0) k t
   pub same : length r ≡ length t
 
-pub repeating-start : (t : List ℕ) (b end : ℕ) → 1 ≤ b → b ≤ blockSize → b ≤ end → Repeating t b end t b b
-repeating-start t b end l m h = record {
+pub repeating-start : {t : List ℕ} {b end : ℕ} → 1 ≤ b → b ≤ blockSize → b ≤ end → Repeating t b end t b b
+repeating-start {t} {b} l m h = record {
   some = l;
   most = m;
   known = omega arith;
@@ -84,8 +85,8 @@ repeating-start t b end l m h = record {
 
 -- w bytes more, to give r′, and the next step's width w′
 pub repeating-next : {t : List ℕ} {b end : ℕ} {r : List ℕ} {w k : ℕ} → Repeating t b end r w k → end ≤ length t → w ≤ end - k
-    → {r′ : List ℕ} → r′ ≡ moved r r k 0 w → (w′ : ℕ) → w′ ≡ cond (leb w (blockSize / 2)) (w + w) w → Repeating t b end r′ w′ (k + w)
-repeating-next {t} {b} {end} {r} {w} {k} v l h g w′ e =
+    → {r′ : List ℕ} → r′ ≡ moved r r k 0 w → {w′ : ℕ} → w′ ≡ cond (leb w (blockSize / 2)) (w + w) w → Repeating t b end r′ w′ (k + w)
+repeating-next {t} {b} {r = r} {w} {k} v l h g {w′} e =
     let n = wider-bounds w w′ e (v .most) in
     record {
       some = omega (arith, v .some);
@@ -102,8 +103,8 @@ repeating-next {t} {b} {end} {r} {w} {k} v l h g w′ e =
 pub repeating-end : {t : List ℕ} {b end : ℕ} {r : List ℕ} {w k : ℕ} → Repeating t b end r w k → end ≤ length t → end - k ≤ w
     → {r′ : List ℕ} → r′ ≡ moved r r k 0 (end - k) → r′ ≡ front (λ i. getD t (i % b) 0) end t
 repeating-end {t} {b} {end} {r} {w} {k} v l h g =
-    g ∙ repeat-more _ k (end - k) t r (v .place) (omega (arith, v .known)) (omega (arith, v .room)) (v .bytes)
-    ∙ ap (λ (n : ℕ). front (λ i. getD t (i % b) 0) n t) (omega (arith, v .room))
+    g ∙ repeat-more _ k (end - k) t r (v .place) (omega arith) (omega arith) (v .bytes)
+    ∙ ap (λ (n : ℕ). front (λ i. getD t (i % b) 0) n t) (omega arith)
 
 -- ---- the background, n pixels of b bytes
 
@@ -113,7 +114,8 @@ pixel-fits n b m = rw one-mul at (mul-le-mul-right b m)
 module _ (n b : ℕ) (bg t : List ℕ) (one : 1 ≤ b) (pixel : length bg ≡ b) where
   pub fill-uniform : Alike bg (length bg) → front (λ i. getD bg 0 0) (n * b) t ≡ paint n b (λ p. true) (λ p j. getD bg j 0) t
   fill-uniform u =
-      front-is (λ i. getD bg (i % b) 0) (n * b) t _ (front-length _ (n * b) t) (λ i h l. front-in _ (n * b) t i h l ∙ sym (u (i % b) (rw pixel (mod-lt i one)))) (λ i h l. front-past _ (n * b) t i h l)
+      front-is (λ i. getD bg (i % b) 0) (n * b) t _ (front-length _ (n * b) t) (λ i h l. front-in _ (n * b) t i h l ∙ sym (u (i % b) (rw pixel (mod-lt i one))))
+      (λ i h l. front-past _ (n * b) t i h l)
       ∙ front-fill n b bg t
 
   pub fill-none : n ≡ 0 → t ≡ paint n b (λ p. true) (λ p j. getD bg j 0) t
@@ -121,10 +123,12 @@ module _ (n b : ℕ) (bg t : List ℕ) (one : 1 ≤ b) (pixel : length bg ≡ b)
       sym (front-none _ t) ∙ ap (λ (k : ℕ). front (λ i. getD bg (i % b) 0) k t) (sym (zero-mul b) ∙ ap (λ (k : ℕ). k * b) (sym z)) ∙ front-fill n b bg t
 
   -- the first pixel copied, to give t₁, and repeated
-  pub fill-repeat : (t₁ : List ℕ) → 1 ≤ n → n * b ≤ length t → t₁ ≡ copied t bg 0 b → front (λ i. getD t₁ (i % b) 0) (n * b) t₁ ≡ paint n b (λ p. true) (λ p j. getD bg j 0) t
+  pub fill-repeat : (t₁ : List ℕ) → 1 ≤ n → n * b ≤ length t → t₁ ≡ copied t bg 0 b
+      → front (λ i. getD t₁ (i % b) 0) (n * b) t₁ ≡ paint n b (λ p. true) (λ p j. getD bg j 0) t
   fill-repeat t₁ m r e =
       front-is (λ i. getD bg (i % b) 0) (n * b) t _ (front-length _ (n * b) t₁ ∙ same)
-      (λ i h l. front-in _ (n * b) t₁ i (rw same h) l ∙ ap (λ (x : List ℕ). getD x (i % b) 0) e ∙ copied-in t bg 0 b (i % b) (omega (arith, mod-lt i one, pixel-fits n b m)) (omega arith) (mod-lt i one))
+      (λ i h l. front-in _ (n * b) t₁ i (rw same h) l ∙ ap (λ (x : List ℕ). getD x (i % b) 0) e ∙ copied-in t bg 0 b (i % b)
+      (omega (arith, mod-lt i one, pixel-fits n b m)) (omega arith) (mod-lt i one))
       (λ i h l. front-past _ (n * b) t₁ i (rw same h) l ∙ ap (λ (x : List ℕ). getD x i 0) e ∙ copied-past t bg 0 b i h (omega (arith, pixel-fits n b m)))
       ∙ front-fill n b bg t
     where

@@ -1,11 +1,11 @@
 -- Bytes copied from one number up to another.
-use mathlib.Core.Path.{_≡_, refl, sym, ap, _∙_}
+use mathlib.Core.Path.{_≡_, sym, ap, _∙_}
+use mathlib.Core.Logic.{by-cases}
 use Prim.Native.Nat.{ℕ, _≤_, _<_}
-use native.Mathlib.Nat.{lt-of-not-le}
 use native.Mathlib.Decide.{decLt}
 use native.Mathlib.Omega.{arith}
 use mathlib.Core.List.{List}
-use mathlib.Core.Bool.{Bool, true, false, cond, _&&_}
+use mathlib.Core.Bool.{Bool, true, false, cond, _&&_, and-false}
 use lib.Dec.{ltb, leb}
 use lib.ListN.{length, getD}
 use lib.Seq.{ext-getD}
@@ -17,12 +17,7 @@ use Rattle.copies.specs.Copied.{copied}
 
 -- a number is below a, from a up to e, or past
 pub by-range : {P : Type 0} (a e k : ℕ) → (k < a → P) → (a ≤ k → k < e → P) → (e ≤ k → P) → P
-by-range {P} a e k f g h = go (decLt k a) (decLt k e)
-  where
-    go : Dec (k < a) → Dec (k < e) → P
-    go (yes l) x = f l
-    go (no l) (yes r) = g (omega arith) r
-    go (no l) (no r) = h (omega arith)
+by-range a e k f g h = by-cases (decLt k a) f (λ l. by-cases (decLt k e) (λ r. g (omega arith) r) (λ r. h (omega arith)))
 
 pub range-in : (a e k : ℕ) → a ≤ k → k < e → (leb a k && ltb k e) ≡ true
 range-in a e k h l = rw (le-leb a k h, lt-ltb k e l)
@@ -31,11 +26,7 @@ pub range-below : (a e k : ℕ) → k < a → (leb a k && ltb k e) ≡ false
 range-below a e k h = rw (lt-leb a k h)
 
 pub range-past : (a e k : ℕ) → e ≤ k → (leb a k && ltb k e) ≡ false
-range-past a e k h = go (leb a k)
-  where
-    go : (x : Bool) → (x && ltb k e) ≡ false
-    go true = le-ltb k e h
-    go false = refl
+range-past a e k h = rw (le-ltb k e h) (and-false (leb a k))
 
 -- no number lies from a up to a
 pub range-none : (a k : ℕ) → (leb a k && ltb k a) ≡ false
@@ -69,14 +60,16 @@ copied-past d s a e k l h = copied-at d s a e k l ∙ rw (range-past a e k h)
 -- a copy up to j, and on from there
 pub copied-on : (d s : List ℕ) (a j e : ℕ) → a ≤ j → j ≤ e → copied (copied d s a j) s j e ≡ copied d s a e
 copied-on d s a j e h h′ =
-    ext-getD 0 _ _ (copied-length _ s j e ∙ copied-length d s a j ∙ sym (copied-length d s a e)) (λ k l. at k (rw (copied-length _ s j e, copied-length d s a j) at l))
+    ext-getD 0 _ _ (copied-length _ s j e ∙ copied-length d s a j ∙ sym (copied-length d s a e))
+    (λ k l. at k (rw (copied-length _ s j e, copied-length d s a j) at l))
   where
     at : (k : ℕ) → k < length d → getD (copied (copied d s a j) s j e) k 0 ≡ getD (copied d s a e) k 0
     at k l =
         let l′ : k < length (copied d s a j) = rw copied-length l in
         by-range j e k
         (λ x. copied-below _ s j e k l′ x
-        ∙ by-range a j k (λ y. copied-below d s a j k l y ∙ sym (copied-below d s a e k l y)) (λ y z. copied-in d s a j k l y z ∙ sym (copied-in d s a e k l y (omega arith)))
+        ∙ by-range a j k (λ y. copied-below d s a j k l y ∙ sym (copied-below d s a e k l y))
+        (λ y z. copied-in d s a j k l y z ∙ sym (copied-in d s a e k l y (omega arith)))
         (λ y. absurd (omega arith)))
         (λ x y. copied-in _ s j e k l′ x y ∙ sym (copied-in d s a e k l (omega arith) y))
         (λ x. copied-past _ s j e k l′ x ∙ copied-past d s a j k l (omega arith) ∙ sym (copied-past d s a e k l x))

@@ -20,14 +20,16 @@ moved-length d s p q n = length-tab (length d) _
 pub moved-none : (d s : List ℕ) (p q : ℕ) → moved d s p q 0 ≡ d
 unfolding moved
 moved-none d s p q =
-    tab-ext (length d) _ _ (λ k l. ap (λ (x : Bool). cond x (getD s (q + (k - p)) 0) (getD d k 0)) (ap (λ (e : ℕ). leb p k && ltb k e) (add-zero p) ∙ range-none p k))
+    tab-ext (length d) _ _
+    (λ k l. ap (λ (x : Bool). cond x (getD s (q + (k - p)) 0) (getD d k 0)) (ap (λ (e : ℕ). leb p k && ltb k e) (add-zero p) ∙ range-none p k))
     ∙ sym (tab-getD d)
 
 pub moved-more : (d s : List ℕ) (p q i : ℕ) → p + i < length d → set (moved d s p q i) (p + i) (getD s (q + i) 0) ≡ moved d s p q (i + 1)
 unfolding moved
 moved-more d s p q i l =
     tab-set (length d) _ _ (p + i) (getD s (q + i) 0) l
-    (ap (λ (x : ℕ). getD s x 0) (omega arith) ∙ sym (ap (λ (x : Bool). cond x (getD s (q + (p + i - p)) 0) (getD d (p + i) 0)) (range-in p (p + (i + 1)) (p + i) (omega arith) (omega arith))))
+    (ap (λ (x : ℕ). getD s x 0) (omega arith) ∙ sym
+    (ap (λ (x : Bool). cond x (getD s (q + (p + i - p)) 0) (getD d (p + i) 0)) (range-in p (p + (i + 1)) (p + i) (omega arith) (omega arith))))
     (λ k b n. ap (λ (x : Bool). cond (leb p k && x) (getD s (q + (k - p)) 0) (getD d k 0)) (ltb-next k (p + i) n ∙ ap (ltb k) (omega arith)))
 
 -- ---- the byte at number k after a move
@@ -74,5 +76,6 @@ moved-through d s b p q n h =
 pub through : (d s b b′ d′ : List ℕ) (p q n : ℕ) → n ≤ length b → b′ ≡ moved b s 0 q n → d′ ≡ moved d b′ p 0 n → d′ ≡ moved d s p q n
 through d s b b′ d′ p q n l f g = g ∙ ap (λ (x : List ℕ). moved d x p 0 n) f ∙ moved-through d s b p q n l
 
-pub copied-through : (d s b b′ d′ : List ℕ) (a e : ℕ) → a ≤ e → e - a ≤ length b → b′ ≡ moved b s 0 a (e - a) → d′ ≡ moved d b′ a 0 (e - a) → d′ ≡ copied d s a e
+pub copied-through : (d s b b′ d′ : List ℕ) (a e : ℕ) → a ≤ e → e - a ≤ length b → b′ ≡ moved b s 0 a (e - a) → d′ ≡ moved d b′ a 0 (e - a)
+    → d′ ≡ copied d s a e
 copied-through d s b b′ d′ a e h l f g = through d s b b′ d′ a a (e - a) l f g ∙ moved-same d s a e h

@@ -1,5 +1,5 @@
 -- The loop that puts a key among the first n: those from i on that are not below it have moved up by one, and place i is free. Assumes nothing.
-use Prim.Native.Nat.{ℕ, suc, _+_, _-_, _≤_, _<_}
+use Prim.Native.Nat.{ℕ, suc, _+_, _≤_, _<_}
 use mathlib.Core.Path.{_≡_, refl, sym, _∙_}
 use mathlib.Core.List.{List, _∷_, _++_, append-assoc}
 use mathlib.Core.Logic.{⊎-elim}
@@ -40,12 +40,14 @@ module _ (n r : ℕ) (before t : List ℕ) (i : ℕ) (w : Inserting n r before t
       rw (w .shape) (List·getD-append (take i before) _ 0 m l ∙ getD-take i before m 0 h)
 
   fills : (v : ℕ) → set t i v ≡ take i before ++ v ∷ (drop i (take n before) ++ drop (n + 1) before)
-  fills v = rw (w .shape) (set-at (take i before) (w .free) _ v i (length-take-le i before (omega (arith, w .few, w .within))))
+  fills v = rw (w .shape) (set-at (take i before) (w .free) _ v i (length-take-le i before (omega arith)))
 
-  moved : (m : ℕ) → i ≡ suc m → take i before ++ getD before m 0 ∷ (drop i (take n before) ++ drop (n + 1) before) ≡ take m before ++ getD before m 0 ∷ (drop m (take n before) ++ drop (n + 1) before)
+  moved : (m : ℕ) → i ≡ suc m
+      → take i before ++ getD before m 0 ∷ (drop i (take n before) ++ drop (n + 1) before)
+      ≡ take m before ++ getD before m 0 ∷ (drop m (take n before) ++ drop (n + 1) before)
   moved m e =
-      let l : m < length (take n before) = omega (arith, length-take-le n before (omega (arith, w .within)), w .few) in
-      rw (e, take-suc before m 0 (omega (arith, w .few, w .within)), drop-cons (take n before) m 0 l, getD-take n before m 0 (omega (arith, w .few)))
+      let l : m < length (take n before) = omega (arith, length-take-le n before (omega (arith, w .within))) in
+      rw (e, take-suc before m 0 (omega arith), drop-cons (take n before) m 0 l, getD-take n before m 0 (omega arith))
       (append-assoc (take m before) _ _)
 
   pub inserting-next : (m v : ℕ) → i ≡ suc m → v ≡ getD t m 0 → r ≤ v → Inserting n r before (set t i v) m
@@ -63,11 +65,12 @@ module _ (n r : ℕ) (before t : List ℕ) (i : ℕ) (w : Inserting n r before t
   -- the key goes to the free place: all before it are below it
   inserted : ((j : ℕ) → j < i → getD (take n before) j 0 < r) → Inserted n r before (set t i r)
   inserted low =
-      let s : length (take n before) ≡ n = length-take-le n before (omega (arith, w .within)) in
+      let s : length (take n before) ≡ n = length-take-le n before (omega arith) in
       let k : insertKey r (take n before) ≡ take i before ++ r ∷ drop i (take n before) =
-      insert-at r (take n before) i (omega (arith, w .few)) low (λ h. rw (getD-take n before i 0 (omega arith)) (w .above (omega arith)))
+      insert-at r (take n before) i (omega arith) low (λ h. rw (getD-take n before i 0 (omega arith)) (w .above (omega arith)))
       ∙ rw (take-take i n before (w .few)) in
-      let a : set t i r ≡ insertKey r (take n before) ++ drop (n + 1) before = fills r ∙ (sym (append-assoc (take i before) (r ∷ drop i (take n before)) (drop (n + 1) before)) ∙ rw k) in
+      let a : set t i r ≡ insertKey r (take n before) ++ drop (n + 1) before =
+      fills r ∙ (sym (append-assoc (take i before) (r ∷ drop i (take n before)) (drop (n + 1) before)) ∙ rw k) in
       let z : length (insertKey r (take n before)) ≡ n + 1 = omega (arith, length-insert r (take n before)) in
       record {
         keys-are = rw a (take-at (insertKey r (take n before)) _ (n + 1) z);
@@ -82,7 +85,7 @@ module _ (n r : ℕ) (before t : List ℕ) (i : ℕ) (w : Inserting n r before t
   inserted-behind m v e f h u = inserted low
     where
       s : length (take n before) ≡ n
-      s = length-take-le n before (omega (arith, w .within))
+      s = length-take-le n before (omega arith)
 
       last : getD (take n before) m 0 < r
       last = rw (getD-take n before m 0 (omega (arith, w .few))) (omega (arith, f ∙ below-is m (omega arith)))

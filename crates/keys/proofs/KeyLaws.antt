@@ -41,7 +41,8 @@ length-insert r (q ∷ qs) = step (λ l. length l ≡ suc (suc (length qs))) r q
 
 -- ---- where the key stands: behind those that are below it
 
-pub insert-at : (r : ℕ) (l : List ℕ) (i : ℕ) → i ≤ length l → ((j : ℕ) → j < i → getD l j 0 < r) → (i < length l → r ≤ getD l i 0) → insertKey r l ≡ take i l ++ r ∷ drop i l
+pub insert-at : (r : ℕ) (l : List ℕ) (i : ℕ) → i ≤ length l → ((j : ℕ) → j < i → getD l j 0 < r) → (i < length l → r ≤ getD l i 0)
+    → insertKey r l ≡ take i l ++ r ∷ drop i l
 unfolding insertKey
 insert-at r [] zero h below above = refl
 insert-at r [] (suc i) h below above = absurd (omega arith)
@@ -52,17 +53,20 @@ insert-at r (q ∷ qs) (suc i) h below above =
 
 -- ---- the members
 
-pub insert-each : (P : ℕ → Type 0) (r : ℕ) (l : List ℕ) → P r → ((i : ℕ) → i < length l → P (getD l i 0)) → (j : ℕ) → j < length (insertKey r l) → P (getD (insertKey r l) j 0)
+pub insert-each : (P : ℕ → Type 0) (r : ℕ) (l : List ℕ) → P r → ((i : ℕ) → i < length l → P (getD l i 0)) → (j : ℕ) → j < length (insertKey r l)
+    → P (getD (insertKey r l) j 0)
 unfolding insertKey
 insert-each P r [] p h zero k = p
 insert-each P r [] p h (suc j) k = absurd (omega arith)
-insert-each P r (q ∷ qs) p h j k = step (λ l. (j : ℕ) → j < length l → P (getD l j 0)) r q qs (λ u. front) (λ u. back (insert-each P r qs p (λ i k. h (suc i) (suc-le-suc k)))) j k
+insert-each P r (q ∷ qs) p h j k =
+    step (λ l. (j : ℕ) → j < length l → P (getD l j 0)) r q qs (λ u. front) (λ u. back (insert-each P r qs p (λ i k. h (suc i) (suc-le-suc k)))) j k
   where
     front : (j : ℕ) → j < length (r ∷ q ∷ qs) → P (getD (r ∷ q ∷ qs) j 0)
     front zero k = p
     front (suc j) k = h j (omega arith)
 
-    back : ((j : ℕ) → j < length (insertKey r qs) → P (getD (insertKey r qs) j 0)) → (j : ℕ) → j < length (q ∷ insertKey r qs) → P (getD (q ∷ insertKey r qs) j 0)
+    back : ((j : ℕ) → j < length (insertKey r qs) → P (getD (insertKey r qs) j 0)) → (j : ℕ) → j < length (q ∷ insertKey r qs)
+        → P (getD (q ∷ insertKey r qs) j 0)
     back ih zero k = h 0 (suc-le-suc zero-le)
     back ih (suc j) k = ih j (omega arith)
 
@@ -79,7 +83,7 @@ insert-has r [] = (0, suc-le-suc zero-le, refl)
 insert-has r (q ∷ qs) = step (Among r) r q qs (λ h. (0, suc-le-suc zero-le, refl)) (λ h. later r q (insertKey r qs) (insert-has r qs))
 
 pub insert-keeps : (q r : ℕ) (l : List ℕ) → Among q l → Among q (insertKey r l)
-insert-keeps q r [] a = absurd (omega (arith, a .1))
+insert-keeps q r [] a = absurd (omega arith)
 insert-keeps q r (x ∷ xs) a = step (Among q) r x xs (λ h. later q r (x ∷ xs) a) (λ h. go (a .0) (a .1) (a .2) (λ b. insert-keeps q r xs b))
   where
     go : (i : ℕ) → i < length (x ∷ xs) → getD (x ∷ xs) i 0 ≡ q → (Among q xs → Among q (insertKey r xs)) → Among q (x ∷ insertKey r xs)
@@ -98,7 +102,9 @@ rising-cons q l low u (suc i) (suc j) h k = u i j (omega arith) (omega arith)
 pub rising-insert : (r : ℕ) (l : List ℕ) → Rising l → (Among r l → ⊥) → Rising (insertKey r l)
 unfolding insertKey
 rising-insert r [] u n = rising-cons r [] (λ j h. absurd (omega arith)) u
-rising-insert r (q ∷ qs) u n = step Rising r q qs (λ h. rising-cons r (q ∷ qs) (front h) u) (λ h. rising-cons q (insertKey r qs) (back h) (rising-insert r qs tail (λ a. n (later r q qs a))))
+rising-insert r (q ∷ qs) u n =
+    step Rising r q qs (λ h. rising-cons r (q ∷ qs) (front h) u)
+    (λ h. rising-cons q (insertKey r qs) (back h) (rising-insert r qs tail (λ a. n (later r q qs a))))
   where
     tail : Rising qs
     tail i j h k = u (suc i) (suc j) (suc-le-suc h) (suc-le-suc k)
@@ -111,5 +117,6 @@ rising-insert r (q ∷ qs) u n = step Rising r q qs (λ h. rising-cons r (q ∷ 
     back h = insert-each (λ x. q < x) r qs h (λ i k. u 0 (suc i) (suc-le-suc zero-le) (suc-le-suc k))
 
 -- the keys of the table rise after one went in that was not there
-pub inserted-rising : (n r : ℕ) (before after : List ℕ) → Inserted n r before after → Rising (take n before) → (Among r (take n before) → ⊥) → Rising (take (n + 1) after)
+pub inserted-rising : (n r : ℕ) (before after : List ℕ) → Inserted n r before after → Rising (take n before) → (Among r (take n before) → ⊥)
+    → Rising (take (n + 1) after)
 inserted-rising n r before after w u k = subst Rising (sym (w .keys-are)) (rising-insert r (take n before) u k)

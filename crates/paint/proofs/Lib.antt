@@ -3,3 +3,4 @@ pub mod Rooms
 pub mod Spans
 pub mod Given
 pub mod Steps
+pub mod Along

@@ -1,7 +1,8 @@
 -- Runs of bits within a byte, and bytes whose bits are all the same.
 use mathlib.Core.Path.{_≡_, refl, sym, ap, _∙_, subst}
+use mathlib.Core.Logic.{by-cases}
 use Prim.Native.Nat.{ℕ, zero, suc, _+_, _*_, _-_, _/_, _%_, _^_, _≤_, _<_}
-use native.Mathlib.Nat.{div-eq-of-lt, div-eq-of-lt-le, lt-of-lt-of-le, lt-of-not-le, mod-lt, pow-suc, zero-add}
+use native.Mathlib.Nat.{div-eq-of-lt, div-eq-of-lt-le, lt-of-lt-of-le, mod-lt, pow-suc, zero-add}
 use native.Mathlib.Decide.{decLt, ℕ-discrete}
 use native.Mathlib.Omega.{arith}
 use mathlib.Core.List.{List}
@@ -86,10 +87,10 @@ ones-start z h l =
 -- the leading zeros of what is left end at the first one from number a on
 run-zeros : (y : ℕ) → y < 256 → (a : ℕ) → a < 8 → Run (bitIn y) a 8 false (leadingZeros 8 (y % 2 ^ (8 - a)))
 run-zeros y h a l = record {
-  start = begins (decLt (8 - a) (t .0));
+  start = begins;
   end = omega (arith, t .1);
   same = λ i b c. sym (kept y a i b (omega (arith, t .1))) ∙ zeros-end z small i c;
-  stops = λ c. sym (kept y a _ (begins (decLt (8 - a) (t .0))) c) ∙ ones-start z small c;
+  stops = λ c. sym (kept y a _ begins c) ∙ ones-start z small c;
 }
   where
     z : ℕ
@@ -104,11 +105,13 @@ run-zeros y h a l = record {
     t : (m : ℕ) × (leadingZeros 8 z + m ≡ 8) × (z < 2 ^ m) × (2 ^ m ≤ 2 * z + 1)
     t = leading-length 8 z small
 
-    begins : Dec (8 - a < t .0) → a ≤ leadingZeros 8 z
-    begins (yes c) =
+    begins : a ≤ leadingZeros 8 z
+    begins =
+        by-cases (decLt (8 - a) (t .0))
+        (λ c.
         let p : 2 ^ (8 - a) * 2 ≤ 2 ^ t .0 = subst (λ (x : ℕ). x ≤ 2 ^ t .0) (pow-suc 2 (8 - a)) (pow-mono c) in
-        absurd (omega (arith, p, t .3, under))
-    begins (no c) = omega (arith, t .1, lt-of-not-le c)
+        absurd (omega (arith, t .3, under)))
+        (λ c. omega (arith, t .1))
 
 -- what is left of the bits that differ: its leading zeros end at the first such bit from number a on
 pub rest-pos : (a : ℕ) → a < 8 → 0 < 256 / 2 ^ a
@@ -133,12 +136,9 @@ full-lt false = omega arith
 
 -- a byte that is not such a byte has another bit
 not-full : (x : ℕ) → x < 256 → (v : Bool) (r : ℕ) → eqb x (full v) ≡ false → Run (bitIn x) 0 8 v r → r < 8
-not-full x h v r n o = go (decLt r 8)
-  where
-    go : Dec (r < 8) → r < 8
-    go (yes l) = l
-    go (no l) =
-        absurd (eqb-false x (full v) n (same-bits x (full v) h (full-lt v) (λ i c. o .same i (omega arith) (omega arith) ∙ sym (full-bits v i c))))
+not-full x h v r n o =
+    by-cases (decLt r 8) (λ l. l)
+    (λ l. absurd (eqb-false x (full v) n (same-bits x (full v) h (full-lt v) (λ i c. o .same i (omega arith) (omega arith) ∙ sym (full-bits v i c)))))
 
 -- eight such bytes are such a word, and so it has no others
 full-bytes : (n : ℕ) (v : Bool) → Bytes (replicate n (full v))
@@ -168,27 +168,19 @@ pub full-none : (m : List ℕ) (v : Bool) (k : ℕ) → Full m v k k
 full-none m v k j a b = absurd (omega arith)
 
 -- and then eight, or one
-pub full-word-more : (m : List ℕ) → Bytes m → (v : Bool) (k i : ℕ) → Full m v k i → u64At m i ≡ fullWord v → Full m v k (i + 8)
-full-word-more m h v k i f e j a b = go (decLt j i)
-  where
-    go : Dec (j < i) → getD m j 0 ≡ full v
-    go (yes l) = f j a l
-    go (no l) = word-bytes m h v i e j (omega arith) b
+pub full-word-more : (m : List ℕ) → Bytes m → (v : Bool) {k i : ℕ} → Full m v k i → u64At m i ≡ fullWord v → Full m v k (i + 8)
+full-word-more m h v {k} {i} f e j a b = by-cases (decLt j i) (λ l. f j a l) (λ l. word-bytes m h v i e j (omega arith) b)
 
-pub full-byte-more : (m : List ℕ) (v : Bool) (k i : ℕ) → Full m v k i → getD m i 0 ≡ full v → Full m v k (i + 1)
-full-byte-more m v k i f e j a b = go (ℕ-discrete j i)
-  where
-    go : Dec (j ≡ i) → getD m j 0 ≡ full v
-    go (yes z) = ap (λ (n : ℕ). getD m n 0) z ∙ e
-    go (no n) = f j a (omega arith)
+pub full-byte-more : (m : List ℕ) (v : Bool) {k i : ℕ} → Full m v k i → getD m i 0 ≡ full v → Full m v k (i + 1)
+full-byte-more m v {k} {i} f e j a b = by-cases (ℕ-discrete j i) (λ z. ap (λ (n : ℕ). getD m n 0) z ∙ e) (λ n. f j a (omega arith))
 
 -- their run ends at another byte, or at the end
-module _ (m : List ℕ) (v : Bool) (k e i : ℕ) (a : k ≤ i) (b : i ≤ e) (f : Full m v k i) where
+module _ (m : List ℕ) (v : Bool) {k e i : ℕ} (a : k ≤ i) (b : i ≤ e) (f : Full m v k i) where
   each : (j : ℕ) → k ≤ j → j < i → eqb (getD m j 0) (full v) ≡ true
   each j h l = eq-eqb (getD m j 0) (full v) (f j h l)
 
-  pub full-stop : (getD m i 0 ≡ full v → ⊥) → Run (λ j. eqb (getD m j 0) (full v)) k e true i
-  full-stop n = record { start = a; end = b; same = each; stops = λ _. ne-eqb (getD m i 0) (full v) n }
+  pub full-stop : (byte : ℕ) → byte ≡ full v → (getD m i 0 ≡ byte → ⊥) → Run (λ j. eqb (getD m j 0) (full v)) k e true i
+  full-stop byte z n = record { start = a; end = b; same = each; stops = λ _. ne-eqb (getD m i 0) (full v) (λ q. n (q ∙ sym z)) }
 
   pub full-end : e ≤ i → Run (λ j. eqb (getD m j 0) (full v)) k e true i
   full-end l = record { start = a; end = b; same = each; stops = λ h. absurd (omega arith) }
@@ -196,8 +188,8 @@ module _ (m : List ℕ) (v : Bool) (k e i : ℕ) (a : k ≤ i) (b : i ≤ e) (f 
 -- ---- from bytes to the map's bits
 
 -- a run within byte k
-pub run-at : (m : List ℕ) (k a s : ℕ) (v : Bool) (r : ℕ) → s ≡ 8 * k + a → Run (bitIn (getD m k 0)) a 8 v r → Run (bit m) s (8 * k + 8) v (8 * k + r)
-run-at m k a s v r e o = record {
+pub run-at : (m : List ℕ) (k : ℕ) {a s : ℕ} {v : Bool} {r : ℕ} → s ≡ 8 * k + a → Run (bitIn (getD m k 0)) a 8 v r → Run (bit m) s (8 * k + 8) v (8 * k + r)
+run-at m k {r = r} e o = record {
   start = omega arith;
   end = omega arith;
   same = λ i b c.
@@ -213,26 +205,26 @@ bytes-run m k j v h p a b =
     ap (λ (x : ℕ). bitIn x (p % 8)) (eqb-true (getD m (p / 8) 0) (full v) (h (p / 8) (omega arith) (omega arith))) ∙ full-bits v (p % 8) (omega arith)
 
 -- full bytes, and then a run in the byte behind them: e is where the bits end
-module _ (m : List ℕ) (h : Bytes m) (k j e : ℕ) (v : Bool) (o : Run (λ i. eqb (getD m i 0) (full v)) k (e / 8) true j) where
+module _ (m : List ℕ) {k j : ℕ} (e : ℕ) (v : Bool) (o : Run (λ i. eqb (getD m i 0) (full v)) k (e / 8) true j) where
   passed : (p : ℕ) → 8 * k ≤ p → p < 8 * j → bit m p ≡ v
   passed = bytes-run m k j v (o .same)
 
   pub run-bytes : 8 * j ≡ e → Run (bit m) (8 * k) e v e
   run-bytes z = run-on passed (omega arith) (run-empty z)
 
-  module _ (r : ℕ) (q : Run (bitIn (getD m j 0)) 0 8 v r) where
+  module _ {r : ℕ} (q : Run (bitIn (getD m j 0)) 0 8 v r) where
     pub run-over : e - 8 * j ≤ r → Run (bit m) (8 * k) e v e
-    run-over l = run-on passed (omega arith) (run-cut (run-at m j 0 (8 * j) v r (omega arith) q) (omega arith) (omega arith))
+    run-over l = run-on passed (omega arith) (run-cut (run-at m j (omega arith) q) (omega arith) (omega arith))
 
-    pub run-in-last : r < e - 8 * j → Run (bit m) (8 * k) e v (8 * j + r)
-    run-in-last l =
-        run-on passed (omega (arith, o .start)) (run-stops (run-at m j 0 (8 * j) v r (omega arith) q) (omega (arith, before (decLt r 8))) (omega arith))
+    pub run-in-last : Bytes m → r < e - 8 * j → Run (bit m) (8 * k) e v (8 * j + r)
+    run-in-last h l =
+        run-on passed (omega (arith, o .start)) (run-stops (run-at m j (omega arith) q) (omega (arith, before)) (omega arith))
       where
-        before : Dec (r < 8) → r < 8
-        before (yes b) = b
-        before (no b) = not-full (getD m j 0) (h j) v r (o .stops (omega arith)) q
+        before : r < 8
+        before = by-cases (decLt r 8) (λ b. b) (λ b. not-full (getD m j 0) (h j) v r (o .stops (omega arith)) q)
 
 -- a run from bit a of byte k on, through the byte's end
-pub run-through : (m : List ℕ) (k a s e : ℕ) (v : Bool) (r r′ : ℕ) → s ≡ 8 * k + a → Run (bitIn (getD m k 0)) a 8 v r → 8 ≤ r → Run (bit m) (8 * (k + 1)) e v r′ → Run (bit m) s e v r′
-run-through m k a s e v r r′ z o l q =
-    run-on (λ p b c. run-at m k a s v r z o .same p b (omega arith)) (omega arith) q
+pub run-through : (m : List ℕ) (k : ℕ) {a s e : ℕ} {v : Bool} {r r′ : ℕ} → s ≡ 8 * k + a → Run (bitIn (getD m k 0)) a 8 v r → 8 ≤ r
+    → Run (bit m) (8 * (k + 1)) e v r′ → Run (bit m) s e v r′
+run-through m k z o l q =
+    run-on (λ p b c. run-at m k z o .same p b (omega arith)) (omega arith) q

@@ -1,7 +1,7 @@
 -- Laws of a run: its end is one, it may be cut short, and it goes on behind values that are all the same.
 use mathlib.Core.Path.{_≡_, sym, _∙_}
+use mathlib.Core.Logic.{by-cases}
 use Prim.Native.Nat.{ℕ, _≤_, _<_}
-use native.Mathlib.Nat.{lt-of-not-le}
 use native.Mathlib.Decide.{decLt}
 use native.Mathlib.Omega.{arith}
 use mathlib.Core.Bool.{Bool, true, false, not, true≢false}
@@ -13,12 +13,9 @@ not-not-same false e = true≢false (sym e)
 
 -- the end of a run is one
 pub run-only : {f : ℕ → Bool} {a e : ℕ} {v : Bool} {r r′ : ℕ} → Run f a e v r → Run f a e v r′ → r ≡ r′
-run-only {f} {a} {e} {v} {r} {r′} x y = go (decLt r r′) (decLt r′ r)
-  where
-    go : Dec (r < r′) → Dec (r′ < r) → r ≡ r′
-    go (yes l) d = absurd (not-not-same v (sym (y .same r (x .start) l) ∙ x .stops (omega arith)))
-    go (no l) (yes l′) = absurd (not-not-same v (sym (x .same r′ (y .start) l′) ∙ y .stops (omega arith)))
-    go (no l) (no l′) = omega arith
+run-only {v = v} {r} {r′} x y =
+    by-cases (decLt r r′) (λ l. absurd (not-not-same v (sym (y .same r (x .start) l) ∙ x .stops (omega (arith, y .end)))))
+    (λ l. by-cases (decLt r′ r) (λ l′. absurd (not-not-same v (sym (x .same r′ (y .start) l′) ∙ y .stops (omega (arith, x .end))))) (λ l′. omega arith))
 
 -- where there is no number, the run ends at once
 pub run-empty : {f : ℕ → Bool} {a e : ℕ} {v : Bool} → a ≡ e → Run f a e v e
@@ -44,13 +41,12 @@ run-stops x l h = record { start = x .start; end = h; same = x .same; stops = λ
 
 -- values v, and then a run of v
 pub run-on : {f : ℕ → Bool} {a c e : ℕ} {v : Bool} {r : ℕ} → ((i : ℕ) → a ≤ i → i < c → f i ≡ v) → a ≤ c → Run f c e v r → Run f a e v r
-run-on {f} {a} {c} {e} {v} {r} s l x = record {
+run-on {f} {a} {c} {v = v} {r = r} s l x = record {
   start = omega arith;
   end = x .end;
-  same = λ i b h. go i b h (decLt i c);
+  same = go;
   stops = x .stops;
 }
   where
-    go : (i : ℕ) → a ≤ i → i < r → Dec (i < c) → f i ≡ v
-    go i b h (yes d) = s i b d
-    go i b h (no d) = x .same i (omega arith) h
+    go : (i : ℕ) → a ≤ i → i < r → f i ≡ v
+    go i b h = by-cases (decLt i c) (λ d. s i b d) (λ d. x .same i (omega arith) h)

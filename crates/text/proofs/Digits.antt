@@ -4,7 +4,6 @@ use mathlib.Core.Path.{_≡_, refl}
 use mathlib.Core.Bool.{Bool, true, false, cond}
 use mathlib.Core.List.{[], _∷_, _++_}
 use native.Mathlib.Omega.{arith}
-use native.Mathlib.Nat.{pow-suc}
 use lib.ListN.{length, length-append}
 use lib.Dec.{ltb}
 use borrow.Author.Tests.{lt-ltb, le-ltb, ltb-false}
@@ -48,9 +47,10 @@ digits-short (suc n) (suc k) x p h = go (ltb x 10) refl (λ q l. digits-short n 
   where
     tens : (j : ℕ) → x < 10 ^ suc j → 10 ≤ x → (0 < j) × (x / 10 < 10 ^ j)
     tens zero h l = absurd (omega arith)
-    tens (suc j) h l = (omega arith, omega (arith, pow-suc 10 (suc j)))
+    tens (suc j) h l = (omega arith, omega arith)
 
-    go : (b : Bool) → ltb x 10 ≡ b → (0 < k → x / 10 < 10 ^ k → length (digits n (x / 10)) ≤ k) → length (cond b ((48 + x) ∷ []) (digits n (x / 10) ++ ((48 + x % 10) ∷ []))) ≤ suc k
+    go : (b : Bool) → ltb x 10 ≡ b → (0 < k → x / 10 < 10 ^ k → length (digits n (x / 10)) ≤ k)
+        → length (cond b ((48 + x) ∷ []) (digits n (x / 10) ++ ((48 + x % 10) ∷ []))) ≤ suc k
     go true e ih = omega arith
     go false e ih =
         let t = tens k h (ltb-false x 10 e) in

@@ -13,7 +13,7 @@ use Rattle.text.specs.Text.{textOf, Clean, Appended}
 -- what a text says is as long as its length
 pub text-length : (t : Text) → Clean t → length (textOf t) ≡ t .length
 unfolding textOf
-text-length t h = length-take-le (t .length) (t .bytes) (omega (arith, h .within, h .whole))
+text-length t h = length-take-le (t .length) (t .bytes) (omega arith)
 
 -- a text is itself with nothing after it
 pub appended-none : (t : Text) → Clean t → Appended t [] t
@@ -25,16 +25,17 @@ appended-both t u r x y a b =
     record {
       clean = b .clean;
       text = b .text ∙ rw (a .text) (append-assoc (textOf t) x y);
-      length-is = simp length-append (omega (arith, a .length-is, b .length-is));
+      length-is = simp length-append (omega arith);
     }
 
 -- a byte more than there are in x
-pub appended-more : (t u r : Text) (x : List ℕ) (i : ℕ) → i < length x → Appended t (take i x) u → Appended u (getD x i 0 ∷ []) r → Appended t (take (i + 1) x) r
+pub appended-more : (t u r : Text) (x : List ℕ) (i : ℕ) → i < length x → Appended t (take i x) u → Appended u (getD x i 0 ∷ []) r
+    → Appended t (take (i + 1) x) r
 appended-more t u r x i h a b = rw (add-one, take-suc x i 0) (appended-both t u r (take i x) (getD x i 0 ∷ []) a b)
 
 -- the room that x takes at most
 pub appended-room : (t r : Text) (x : List ℕ) (k : ℕ) → Appended t x r → length x ≤ k → r .length ≤ t .length + k
-appended-room t r x k a h = omega (arith, a .length-is)
+appended-room t r x k a h = omega arith
 
 -- what is put after a text that says nothing is all that the text says
 pub appended-whole : (t r : Text) (x : List ℕ) → textOf t ≡ [] → Appended t x r → textOf r ≡ x
@@ -61,12 +62,13 @@ module _ (xs : List ℕ) (n m b : ℕ) (h : n < m) (e : length xs ≡ m) (r : xs
       let l : n < length xs = omega arith in
       rw (add-one, take-suc-set xs n b l, set-split xs n b l, zeros-after) (sym (append-snoc (take n xs) b (replicate (m - suc n) 0)))
 
-pub appended-byte : (t : Text) (b : ℕ) → Clean t → t .length < 192 → Appended t (b ∷ []) (record { bytes = set (t .bytes) (t .length) b; length = t .length + 1 })
+pub appended-byte : (t : Text) (b : ℕ) → Clean t → t .length < 192
+    → Appended t (b ∷ []) (record { bytes = set (t .bytes) (t .length) b; length = t .length + 1 })
 unfolding textOf
 appended-byte t b h l =
     let n = t .length in
     let s = t .bytes in
-    let k : n < length s = omega (arith, h .whole) in
+    let k : n < length s = omega arith in
     record {
       clean = record {
         within = omega arith;

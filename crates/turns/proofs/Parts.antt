@@ -25,7 +25,8 @@ module _ (a k : ℕ) (xs ys : List ℕ) (fits : a + k ≤ length xs) (l : length
   put-past i =
       ap (λ (z : ℕ). getD (putMid a k xs ys) z 0) (add-assoc a k i)
       ∙ after (k + i)
-      ∙ subst (λ (z : ℕ). getD (ys ++ postOf a k xs) (z + i) 0 ≡ getD xs (a + k + i) 0) l (getD-append-add ys (postOf a k xs) i 0 ∙ getD-drop k (drop a xs) i 0 ∙ getD-drop a xs (k + i) 0 ∙ ap (λ (z : ℕ). getD xs z 0) (sym (add-assoc a k i)))
+      ∙ subst (λ (z : ℕ). getD (ys ++ postOf a k xs) (z + i) 0 ≡ getD xs (a + k + i) 0) l
+      (getD-append-add ys (postOf a k xs) i 0 ∙ getD-drop k (drop a xs) i 0 ∙ getD-drop a xs (k + i) 0 ∙ ap (λ (z : ℕ). getD xs z 0) (sym (add-assoc a k i)))
 
   pub put-length : length (putMid a k xs ys) ≡ length xs
   put-length = same-len-mid a k xs ys (l ∙ sym (length-take-le k (drop a xs) (rw length-drop (omega arith))))

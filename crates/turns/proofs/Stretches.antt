@@ -27,7 +27,8 @@ module _ (t : List ℕ) (first b n : ℕ) (hb : 1 ≤ b) (fits : (first + n) * b
   put-paint ys e =
       paint-eq (first + n) b _ _ t hb (putMid (first * b) (n * b) t ys) (put-length (first * b) (n * b) t ys f l)
       (λ p j hp hj _. at p j hp hj)
-      (λ k h _. subst (λ (z : ℕ). getD (putMid (first * b) (n * b) t ys) z 0 ≡ getD t z 0) (omega arith) (put-past (first * b) (n * b) t ys f l (k - (first * b + n * b))))
+      (λ k h _. subst (λ (z : ℕ). getD (putMid (first * b) (n * b) t ys) z 0 ≡ getD t z 0) (omega arith)
+      (put-past (first * b) (n * b) t ys f l (k - (first * b + n * b))))
     where
       f : first * b + n * b ≤ length t
       f = omega arith
@@ -44,7 +45,8 @@ module _ (t : List ℕ) (first b n : ℕ) (hb : 1 ≤ b) (fits : (first + n) * b
           by-cases (decLt p first) (λ h. put-below (first * b) (n * b) t ys f l (p * b + j) (digits-lt h hj) ∙ (rw (lt-leb first p h)))
           (λ h.
           let i = p - first in
-          let place : p * b + j ≡ first * b + (i * b + j) = ap (λ (z : ℕ). z * b + j) (omega arith) ∙ ap (λ (z : ℕ). z + j) (add-mul first i b) ∙ add-assoc (first * b) (i * b) j in
+          let place : p * b + j ≡ first * b + (i * b + j) =
+          ap (λ (z : ℕ). z * b + j) (omega arith) ∙ ap (λ (z : ℕ). z + j) (add-mul first i b) ∙ add-assoc (first * b) (i * b) j in
           let small : i * b + j < n * b = digits-lt (omega arith) hj in
           ap (λ (z : ℕ). getD (putMid (first * b) (n * b) t ys) z 0) place
           ∙ put-in (first * b) (n * b) t ys f l (i * b + j) small
@@ -55,13 +57,15 @@ module _ (t : List ℕ) (first b n : ℕ) (hb : 1 ≤ b) (fits : (first + n) * b
           ∙ (rw (le-leb first p (omega arith), same p j (omega arith) hp hj)))
 
 -- what the row painter does to the parts that it is lent, said of the whole
-pub stretch-painted : {t m : List ℕ} {first : ℕ} {src : List ℕ} {from b n : ℕ} {masked : Bool} {lines : List ℕ} {line mw x : ℕ} {quick : Bool} {ys m′ : List ℕ} {r : ℕ}
+pub stretch-painted : {t m : List ℕ} {first : ℕ} {src : List ℕ} {from b n : ℕ} {masked : Bool} {lines : List ℕ} {line mw x : ℕ} {quick : Bool} {ys m′ : List ℕ}
+    {r : ℕ}
     → StretchRoom t m first src from b n masked lines line mw x
     → RowPainted (take (first * b + n * b - first * b) (drop (first * b) t)) m first (take (from + n * b - from) (drop from src)) b n masked
     (take (length lines - line) (drop line lines)) mw x quick ys m′ r
     → StretchPainted t m first src from b n masked lines line mw x quick (putMid (first * b) (first * b + n * b - first * b) t ys) m′ r
 stretch-painted {t} {m} {first} {src} {from} {b} {n} {masked} {lines} {line} {mw} {x} {quick} {ys} {m′} {r} h o =
-    subst (λ (k : ℕ). StretchPainted t m first src from b n masked lines line mw x quick (putMid (first * b) k t ys) m′ r) (sym (add-sub-cancel-left (first * b) (n * b)))
+    subst (λ (k : ℕ). StretchPainted t m first src from b n masked lines line mw x quick (putMid (first * b) k t ys) m′ r)
+    (sym (add-sub-cancel-left (first * b) (n * b)))
     (record {
       target = put-paint t first b n (h .bytes) (h .target) (rowGives quick m first masked (drop line lines) mw x)
           (λ i j. getD (take (n * b) (drop from src)) (i * b + j) 0) (λ p j. getD src (from + (p - first) * b + j) 0)
@@ -73,7 +77,13 @@ stretch-painted {t} {m} {first} {src} {from} {b} {n} {masked} {lines} {line} {mw
     })
   where
     o′ : RowPainted (take (n * b) (drop (first * b) t)) m first (take (n * b) (drop from src)) b n masked (drop line lines) mw x quick ys m′ r
-    o′ = rw (add-sub-cancel-left (first * b) (n * b), add-sub-cancel-left from (n * b), take-all (length lines - line) (drop line lines) (rw length-drop (omega arith))) at o
+    o′ =
+        rw (
+          add-sub-cancel-left (first * b) (n * b),
+          add-sub-cancel-left from (n * b),
+          take-all (length lines - line) (drop line lines)
+              (rw length-drop (omega arith)),
+        ) at o
 
 -- and what it asks of them
 pub stretch-room : {t m : List ℕ} {first : ℕ} {src : List ℕ} {from b n : ℕ} {masked : Bool} {lines : List ℕ} {line mw x : ℕ}

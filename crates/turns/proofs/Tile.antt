@@ -49,7 +49,8 @@ unfolding rectCovers
 covers-inside a u v h = rw (le-leb _ _ (h .left), lt-ltb _ _ (h .right), le-leb _ _ (h .top), lt-ltb _ _ (h .bottom))
 
 -- the mask's line
-pub valid-line : (k : Mask) (lines : List ℕ) (r : ℕ) (l : MaskLine) → LineOf k r l → (c : ℕ) → validAt (k .on) (drop (l .start) lines) (l .width) c ≡ validIn k lines c r
+pub valid-line : (k : Mask) (lines : List ℕ) (r : ℕ) (l : MaskLine) → LineOf k r l → (c : ℕ)
+    → validAt (k .on) (drop (l .start) lines) (l .width) c ≡ validIn k lines c r
 unfolding validIn bit
 valid-line k lines r l e c = by-bool (k .on) on (λ o. rw o)
   where
@@ -87,7 +88,8 @@ module _ (rank : ℕ) (w a : Rect) (b : ℕ) (src : List ℕ) (k : Mask) (lines 
       → givesAt (windowOf w) (tileOf rank a b src k lines) (y * w .width + x) ≡ false
   off-row c e y x h o = off (y * w .width + x) (λ i. let z = at-col y x h in ⊎-elim (λ l. omega arith) (λ l. omega arith) o)
 
-  pub off-above : (c : Clip) → Clipped w a c → 1 ≤ w .width → (n p : ℕ) → n + w .top ≤ c .top → p < n * w .width → givesAt (windowOf w) (tileOf rank a b src k lines) p ≡ false
+  pub off-above : (c : Clip) → Clipped w a c → 1 ≤ w .width → (n p : ℕ) → n + w .top ≤ c .top → p < n * w .width
+      → givesAt (windowOf w) (tileOf rank a b src k lines) p ≡ false
   off-above c e hw n p l h = off p (λ i. omega (arith, div-lt-iff-lt-mul hw .1 h))
 
   pub off-below : (c : Clip) → Clipped w a c → 1 ≤ w .width → (n p : ℕ) → c .bottom ≤ n + w .top → n * w .width ≤ p → p < w .height * w .width

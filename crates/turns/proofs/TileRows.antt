@@ -32,7 +32,8 @@ use Rattle.turns.proofs.Tile.{valid-line, off-row, off-above, off-below
 part-end : (i n b : ℕ) → i < n → i * b + b ≤ n * b
 part-end i n b h = rw (suc-mul i b) at (mul-le-mul-right b h)
 
-pub record Rows (t₀ m₀ : List ℕ) (w a : Rect) (src : List ℕ) (b : ℕ) (k : Mask) (lines : List ℕ) (q : Bool) (n x col stop y : ℕ) (t m : List ℕ) (g : ℕ) : Type 0 where
+pub record Rows (t₀ m₀ : List ℕ) (w a : Rect) (src : List ℕ) (b : ℕ) (k : Mask) (lines : List ℕ) (q : Bool) (n x col stop y : ℕ) (t m : List ℕ)
+    (g : ℕ) : Type 0 where
   pub room : TurnRoom t₀ m₀ w a src b k lines
   pub bytes : Bytes m₀
   pub size : length t₀ < 2 ^ 64
@@ -61,10 +62,8 @@ clipped w a = record { left = refl; right = refl; top = refl; bottom = refl }
 -- what a row's numbers are
 pub record Numbers (t₀ m₀ : List ℕ) (w a : Rect) (src : List ℕ) (k : Mask) (b n x col y : ℕ) (t m : List ℕ) (g : ℕ) : Type 0 where
   pub above : a .top ≤ y + w .top
-  pub row : y + w .top - a .top < a .height
   pub fits : y * w .width + w .width ≤ w .height * w .width
   pub width : col + n ≤ w .width
-  pub source : (y + w .top - a .top) * a .width + a .width ≤ a .height * a .width
   pub columns : x + n ≤ a .width
   pub area : w .height * w .width < 2 ^ 64
   pub target : w .height * w .width * b ≤ length t
@@ -101,10 +100,8 @@ module _ {t₀ m₀ : List ℕ} {w a : Rect} {src : List ℕ} {b : ℕ} {k : Mas
       le-trans (rw (add-mul ((y + w .top - a .top) * a .width + x) n b) at (mul-le-mul-right b (more (y + w .top - a .top) src-end cols))) (o .room .source) in
       record {
         above = omega arith;
-        row = row;
         fits = fits;
         width = wide;
-        source = src-end;
         columns = cols;
         area = all;
         target = rw rows-target (o .room .room .target);
@@ -181,7 +178,8 @@ module _ {t₀ m₀ : List ℕ} {w a : Rect} {src : List ℕ} {b : ℕ} {k : Mas
       next = ap (λ (z : ℕ). z * w .width) (add-one y) ∙ suc-mul y (w .width)
 
       -- a pixel between the ends of the row
-      across : (rank p : ℕ) → y * w .width ≤ p → p < (y + 1) * w .width → (w .left + (p - y * w .width) < max (w .left) (a .left)) ⊎ (min (w .left + w .width) (a .left + a .width) ≤ w .left + (p - y * w .width))
+      across : (rank p : ℕ) → y * w .width ≤ p → p < (y + 1) * w .width
+          → (w .left + (p - y * w .width) < max (w .left) (a .left)) ⊎ (min (w .left + w .width) (a .left + a .width) ≤ w .left + (p - y * w .width))
           → givesAt (windowOf w) (tileOf rank a b src k lines) p ≡ false
       across rank p h h′ d =
           subst (λ (z : ℕ). givesAt (windowOf w) (tileOf rank a b src k lines) z ≡ false) (add-sub-of-le h)
@@ -201,7 +199,8 @@ module _ {t₀ m₀ : List ℕ} {w a : Rect} {src : List ℕ} {b : ℕ} {k : Mas
       same-row : w .top + y - a .top ≡ y + w .top - a .top
       same-row = omega arith
 
-      valid : (rank i : ℕ) → i < n → validAt (k .on) (drop (e .start) lines) (e .width) (x + i) ≡ givesAt (windowOf w) (tileOf rank a b src k lines) (y * w .width + col + i)
+      valid : (rank i : ℕ) → i < n
+          → validAt (k .on) (drop (e .start) lines) (e .width) (x + i) ≡ givesAt (windowOf w) (tileOf rank a b src k lines) (y * w .width + col + i)
       valid rank i h =
           valid-line k lines (y + w .top - a .top) e f (x + i)
           ∙ sym (ap (λ (z : ℕ). givesAt (windowOf w) (tileOf rank a b src k lines) z) (add-assoc (y * w .width) col i)
@@ -217,7 +216,9 @@ module _ {t₀ m₀ : List ℕ} {w a : Rect} {src : List ℕ} {b : ℕ} {k : Mas
           ∙ ap (λ (z : ℕ). getD src z 0) (place (w .top + y - a .top) (w .left + (col + i) - a .left) (y + w .top - a .top) same-row (same-col i)))
         where
           place : (v′ u′ v : ℕ) → v′ ≡ v → u′ ≡ x + i → (v′ * a .width + u′) * b + j ≡ (v * a .width + x) * b + i * b + j
-          place v′ u′ v e₁ e₂ = ap₂ (λ (y z : ℕ). (y * a .width + z) * b + j) e₁ e₂ ∙ ap (λ (z : ℕ). z * b + j) (sym (add-assoc (v * a .width) x i)) ∙ ap (λ (z : ℕ). z + j) (add-mul (v * a .width + x) i b)
+          place v′ u′ v e₁ e₂ =
+              ap₂ (λ (y z : ℕ). (y * a .width + z) * b + j) e₁ e₂ ∙ ap (λ (z : ℕ). z * b + j) (sym (add-assoc (v * a .width) x i)) ∙ ap (λ (z : ℕ). z + j)
+              (add-mul (v * a .width + x) i b)
 
       step : (rank : ℕ) → Done (kindOf q) (windowOf w) b (tileOf rank a b src k lines) t₀ m₀ ((y + 1) * w .width) t′ m′ (g + r)
       step rank =
@@ -241,7 +242,8 @@ module _ {t₀ m₀ : List ℕ} {w a : Rect} {src : List ℕ} {b : ℕ} {k : Mas
 
 -- before the first row, and after the last
 pub rows-none : {t₀ m₀ : List ℕ} {w a : Rect} {src : List ℕ} {b : ℕ} {k : Mask} {lines : List ℕ} {q : Bool} {c : Clip}
-    → TurnRoom t₀ m₀ w a src b k lines → Bytes m₀ → length t₀ < 2 ^ 64 → length src < 2 ^ 64 → length lines < 2 ^ 64 → Clipped w a c → c .left < c .right → c .top < c .bottom
+    → TurnRoom t₀ m₀ w a src b k lines → Bytes m₀ → length t₀ < 2 ^ 64 → length src < 2 ^ 64 → length lines < 2 ^ 64 → Clipped w a c → c .left < c .right
+    → c .top < c .bottom
     → Rows t₀ m₀ w a src b k lines q (c .right - c .left) (c .left - a .left) (c .left - w .left) (c .bottom - w .top) (c .top - w .top) t₀ m₀ 0
 rows-none {w = w} {a} {src} {b} {k} {lines} {c = c} r h l l′ l″ e s s′ = record {
   room = r;

@@ -86,7 +86,8 @@ module _ {k : Kind} {w : Window} {b : ℕ} {t : Tile} {t₀ m₀ : List ℕ} (hb
       counted : count n on ≡ count n′ on
       counted =
           sym (ap (λ (z : ℕ). count z on) (sym (add-sub-of-le l)) ∙ sum-add n (n′ - n) _
-          ∙ ap (λ (z : ℕ). count n on + z) (sum-ext (n′ - n) _ (λ i. 0) (λ i h. ap one (turn-off k w t m₀ (n + i) (off (n + i) (omega arith) (omega arith)))) ∙ sum-zero (n′ - n))
+          ∙ ap (λ (z : ℕ). count n on + z)
+          (sum-ext (n′ - n) _ (λ i. 0) (λ i h. ap one (turn-off k w t m₀ (n + i) (off (n + i) (omega arith) (omega arith)))) ∙ sum-zero (n′ - n))
           ∙ add-zero (count n on))
 
 module _ {q : Bool} {w : Window} {b : ℕ} {t : Tile} {t₀ m₀ : List ℕ} (hb : 1 ≤ b) (hm : Bytes m₀) where
@@ -102,12 +103,14 @@ module _ {q : Bool} {w : Window} {b : ℕ} {t : Tile} {t₀ m₀ : List ℕ} (hb
     target = c .target ∙ paint-eq (first + n) b on px t₀ hb (paint (first + n) b on₂ px₂ t₁) (paint-length (first + n) b on₂ px₂ t₁ ∙ length₁)
         (λ p j hp hj hk.
         paint-pixel (first + n) b on₂ px₂ t₁ p j hj (rw length₁ hk)
-        ∙ ap (λ (z : ℕ). cond (ltb p (first + n) && on₂ p) (px₂ p j) z) (ap (λ (z : List ℕ). getD z (p * b + j) 0) (o .target) ∙ paint-pixel first b on px t₀ p j hj hk)
+        ∙ ap (λ (z : ℕ). cond (ltb p (first + n) && on₂ p) (px₂ p j) z)
+        (ap (λ (z : List ℕ). getD z (p * b + j) 0) (o .target) ∙ paint-pixel first b on px t₀ p j hj hk)
         ∙ at p j hp hj)
         (λ i h _. paint-past (first + n) b on₂ px₂ t₁ i h ∙ ap (λ (z : List ℕ). getD z i 0) (o .target)
         ∙ paint-past first b on px t₀ i (le-trans (mul-le-mul-right b (le-add-right first n)) h));
     map = c .map ∙ ap (λ (z : List ℕ). mark (first + n) valid₂ z) (o .map)
-        ∙ same-map (mark (first + n) valid₂ (mark first on m₀)) (mark (first + n) on m₀) lengths (mark-bytes (first + n) valid₂ (mark first on m₀) (mark-bytes first on m₀ hm)) (mark-bytes (first + n) on m₀ hm)
+        ∙ same-map (mark (first + n) valid₂ (mark first on m₀)) (mark (first + n) on m₀) lengths
+        (mark-bytes (first + n) valid₂ (mark first on m₀) (mark-bytes first on m₀ hm)) (mark-bytes (first + n) on m₀ hm)
         (λ p h. let h′ : p < 8 * length m₀ = rw (mark-length (first + n) valid₂ (mark first on m₀), mark-length first on m₀) at h in
         mark-bit (first + n) valid₂ (mark first on m₀) p (rw (mark-length first on m₀) h′)
         ∙ ap (λ (z : Bool). (ltb p (first + n) && valid₂ p) || z) (mark-bit first on m₀ p h′)
@@ -138,7 +141,8 @@ module _ {q : Bool} {w : Window} {b : ℕ} {t : Tile} {t₀ m₀ : List ℕ} (hb
       lengths = mark-length (first + n) valid₂ (mark first on m₀) ∙ mark-length first on m₀ ∙ sym (mark-length (first + n) on m₀)
 
       still : (i : ℕ) → i < n → bit m₁ (first + i) ≡ bit m₀ (first + i)
-      still i h = ap (λ (z : List ℕ). bit z (first + i)) (o .map) ∙ mark-bit first on m₀ (first + i) (omega arith) ∙ (rw (le-ltb (first + i) first (omega arith)))
+      still i h =
+          ap (λ (z : List ℕ). bit z (first + i)) (o .map) ∙ mark-bit first on m₀ (first + i) (omega arith) ∙ (rw (le-ltb (first + i) first (omega arith)))
 
       gave : (i : ℕ) → i < n → rowGives q m₁ first masked (drop line lines) mw x i ≡ on (first + i)
       gave i h =
@@ -150,7 +154,8 @@ module _ {q : Bool} {w : Window} {b : ℕ} {t : Tile} {t₀ m₀ : List ℕ} (hb
       there p h = omega arith
 
       at : (p j : ℕ) → p < first + n → j < b
-          → cond (ltb p (first + n) && on₂ p) (px₂ p j) (cond (ltb p first && on p) (px p j) (getD t₀ (p * b + j) 0)) ≡ cond (on p) (px p j) (getD t₀ (p * b + j) 0)
+          → cond (ltb p (first + n) && on₂ p) (px₂ p j) (cond (ltb p first && on p) (px p j) (getD t₀ (p * b + j) 0))
+          ≡ cond (on p) (px p j) (getD t₀ (p * b + j) 0)
       at p j hp hj =
           by-cases (decLt p first)
           (λ h. rw (lt-ltb p (first + n) hp, lt-leb first p h, lt-ltb p first h))

@@ -9,7 +9,7 @@ use Rattle.bits.proofs.set_part.Statement.{statement}
 use Rattle.bits.proofs.set_part.Tie as tie
 
 bytes : (s : tie.After-slice-known) → Bytes (s .before .args .map .now)
-bytes s k = omega (arith, s .slice-known .given k)
+bytes s k = s .slice-known .given k .fits
 
 returns : tie.Need-returns
 returns c =

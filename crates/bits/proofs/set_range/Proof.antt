@@ -1,6 +1,6 @@
 -- `bits::set_range` meets its contract.
 use mathlib.Core.Path.{_∙_}
-use Prim.Native.Nat.{_*_, _+_, _/_, _%_}
+use Prim.Native.Nat.{_/_}
 use native.Mathlib.Omega.{arith}
 use borrow.Author.Needs.{needs}
 use Rattle.plane.proofs.PaintLaws.{Bytes}
@@ -9,7 +9,7 @@ use Rattle.bits.proofs.set_range.Statement.{statement}
 use Rattle.bits.proofs.set_range.Tie as tie
 
 bytes : (s : tie.After-slice-known) → Bytes (s .before .args .map .now)
-bytes s k = omega (arith, s .slice-known .given k)
+bytes s k = s .slice-known .given k .fits
 
 returns : tie.Need-returns
 returns c =
@@ -27,8 +27,8 @@ returns-2 c =
     let m = a .map .now in
     let k = a .from / 8 in
     let j = a .to / 8 in
-    range-then m (bytes s) (8 * k + a .from % 8) (8 * j) _ _ (omega arith) (omega arith) (omega arith)
-    (range-then m (bytes s) (8 * k + a .from % 8) (8 * k + 8) _ _ (omega arith) (omega arith) (omega arith)
+    range-then m (bytes s) (omega arith) (omega arith) (omega arith)
+    (range-then m (bytes s) (omega arith) (omega arith) (omega arith)
     (first .set-part2 .ensures) (whole .set-whole .ensures)) (last .set-part3 .ensures)
     ∙ marked-ext m (omega arith) (omega arith)
 

@@ -17,7 +17,7 @@ abbrev μ-loop : tie.MeasureT-loop
 μ-loop map₀ k j i₀ map i = j - i
 
 bytes : (s : tie.After-slice-known Inv-loop μ-loop) → Bytes (s .before .args .map .now)
-bytes s k = omega (arith, s .slice-known .given k)
+bytes s k = s .slice-known .given k .fits
 
 loop-again : tie.Need-loop-again Inv-loop μ-loop
 loop-again c =
@@ -28,7 +28,7 @@ loop-again c =
     let m = a .map .now in (
       omega arith,
       omega arith,
-      range-then m (bytes (l .before)) (8 * a .k) (8 * v .i) _ _ (omega arith) (omega arith) (omega arith) (v .inv .2) (p .set-part .ensures) ∙ marked-ext m refl (omega arith),
+      range-then m (bytes (l .before)) (omega arith) (omega arith) (omega arith) (v .inv .2) (p .set-part .ensures) ∙ marked-ext m refl (omega arith),
       p .set-part .kept .0 ∙ v .inv .3,
     )
 

@@ -12,7 +12,8 @@ returns c =
     let k = u .before .before .before in
     let a = k .args in
     c .before .before .fill-byte .ensures
-    ∙ fill-uniform (a .n) (a .b) (a .bg .now) (a .target .now) (k .pre .bytes) (k .pre .pixel) (u .uniform .ensures .0 (c .before .before .before .before .before .if1 .taken))
+    ∙ fill-uniform (a .n) (a .b) (a .bg .now) (a .target .now) (k .pre .bytes) (k .pre .pixel)
+    (u .uniform .ensures .0 (c .before .before .before .before .before .if1 .taken))
 
 returns-2 : tie.Need-returns-2
 returns-2 c =

@@ -12,16 +12,11 @@ Inv-loop dst₀ b end w₀ k₀ dst w k = Repeating dst₀ b end dst w k
 abbrev μ-loop : tie.MeasureT-loop
 μ-loop dst₀ b end w₀ k₀ dst w k = end - k
 
-loop-holds : tie.Need-loop-holds Inv-loop μ-loop
-loop-holds c =
-    let s = c .before in
-    repeating-start (s .args .dst .now) (s .args .b) (s .args .end) (s .pre .0) (s .pre .1) (s .pre .2)
-
 loop-again : tie.Need-loop-again Inv-loop μ-loop
 loop-again c =
     let m = c .before .before .before in
     let l = m .before .before .before in
-    repeating-next (l .loop .inv) (l .before .before .pre .3) (omega arith) (m .copy-within .ensures) (c .wider .result) (c .wider .ensures)
+    repeating-next (l .loop .inv) (l .before .before .pre .3) (omega arith) (m .copy-within .ensures) (c .wider .ensures)
 
 returns : tie.Need-returns Inv-loop μ-loop
 returns c =
@@ -35,7 +30,7 @@ repeat-spec =
     (tie.spec
     Inv-loop
     μ-loop
-    loop-holds
+    (λ c. search repeating-start)
     (λ c. omega arith)
     (λ c κs. search needs)
     (λ c. omega arith)

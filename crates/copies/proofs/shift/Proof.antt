@@ -20,7 +20,8 @@ loop-again c =
     let v = c .before .before .loop in
     let a = c .before .before .before .args in (
       omega arith,
-      ap (λ (d : List ℕ). set d (a .p + v .i) (getD (a .src .now) (a .q + v .i) 0)) (v .inv .1) ∙ moved-more (a .dst .now) (a .src .now) (a .p) (a .q) (v .i) (omega arith),
+      ap (λ (d : List ℕ). set d (a .p + v .i) (getD (a .src .now) (a .q + v .i) 0)) (v .inv .1)
+          ∙ moved-more (a .dst .now) (a .src .now) (a .p) (a .q) (v .i) (omega arith),
       length-set (v .dst) _ _ ∙ v .inv .2,
     )
 

@@ -19,25 +19,17 @@ abbrev μ-loop : tie.MeasureT-loop
 loop-holds : tie.Need-loop-holds Inv-loop μ-loop
 loop-holds c = (omega arith, c .count-words .ensures ∙ ap (λ (n : ℕ). ones n (c .before .before .args .map .now)) (omega arith))
 
--- the sum with byte k
+-- the sum with byte k, which is at most the bits up to there
 next : (c : tie.After-shared-slice-known2 Inv-loop μ-loop)
     → let l = c .before .before in
     let m = l .before .before .before .args .map .now in
-    l .loop .sum + Count.ones (getD m (l .loop .k) 0) ≡ ones (8 * (l .loop .k + 1)) m
+    let n = 8 * (l .loop .k + 1) in
+    (l .loop .sum + Count.ones (getD m (l .loop .k) 0) ≡ ones n m) × (ones n m ≤ n)
 next c =
     let l = c .before .before in
     let m = l .before .before .before .args .map .now in
-    omega (arith, l .loop .inv .1, next-byte m (λ n. omega (arith, c .shared-slice-known2 .given n)) (l .loop .k) (8 * (l .loop .k + 1)) (omega arith))
-
-cast-sum : tie.Need-cast-sum Inv-loop μ-loop
-cast-sum c =
-    let l = c .before .before in
-    omega (arith, next c, ones-bound (8 * (l .loop .k + 1)) (l .before .before .before .args .map .now))
-
-add-sum : tie.Need-add-sum Inv-loop μ-loop
-add-sum c =
-    let l = c .before .before in
-    omega (arith, next c, ones-bound (8 * (l .loop .k + 1)) (l .before .before .before .args .map .now))
+    let n = 8 * (l .loop .k + 1) in
+    (omega (arith, next-byte m (λ i. c .shared-slice-known2 .given i .fits) (l .loop .k) n (omega arith)), ones-bound n m)
 
 returns : tie.Need-returns Inv-loop μ-loop
 returns c =
@@ -54,9 +46,9 @@ count-bytes-spec =
     (λ c. search needs)
     loop-holds
     (λ c. search needs)
-    cast-sum
-    add-sum
+    (λ c. let s = next c in omega arith)
+    (λ c. let s = next c in omega arith)
     (λ c. search needs)
     (λ c. search needs)
-    (λ c. (omega arith, next c))
+    (λ c. (omega arith, next c .0))
     returns)

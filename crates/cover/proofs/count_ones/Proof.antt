@@ -1,6 +1,6 @@
 -- `cover::count_ones` meets its contract.
 use mathlib.Core.Path.{_≡_, ap, _∙_}
-use Prim.Native.Nat.{ℕ, _+_, _-_, _/_, _%_, _^_}
+use Prim.Native.Nat.{ℕ, _+_, _-_, _/_, _%_, _^_, _≤_}
 use lib.Count as Count
 use lib.ListN.{getD}
 use native.Mathlib.Omega.{arith}
@@ -13,21 +13,15 @@ use Rattle.cover.proofs.count_ones.Tie as tie
 returns : tie.Need-returns
 returns c = c .before .count-bytes .ensures ∙ ap (λ (n : ℕ). ones n (c .before .before .before .args .map .now)) (omega arith)
 
--- the sum with the high bits of the last byte
+-- the sum with the high bits of the last byte, which is at most all the bits
 last : (c : tie.After-shared-slice-known2)
     → let b = c .before .before in
     let a = b .before .before .args in
-    b .count-bytes .result + Count.ones (getD (a .map .now) (a .n / 8) 0 / 2 ^ (8 - a .n % 8)) ≡ ones (a .n) (a .map .now)
+    let n = ones (a .n) (a .map .now) in
+    (b .count-bytes .result + Count.ones (getD (a .map .now) (a .n / 8) 0 / 2 ^ (8 - a .n % 8)) ≡ n) × (n ≤ a .n)
 last c =
-    let b = c .before .before in
-    let a = b .before .before .args in
-    omega (arith, b .count-bytes .ensures, last-ones (a .map .now) (λ k. omega (arith, c .shared-slice-known2 .given k)) (a .n))
-
-cast-result-2 : tie.Need-cast-result-2
-cast-result-2 c = let a = c .before .before .before .before .args in omega (arith, last c, ones-bound (a .n) (a .map .now))
-
-add-result : tie.Need-add-result
-add-result c = let a = c .before .before .before .before .args in omega (arith, last c, ones-bound (a .n) (a .map .now))
+    let a = c .before .before .before .before .args in
+    (omega (arith, last-ones (a .map .now) (λ k. c .shared-slice-known2 .given k .fits) (a .n)), ones-bound (a .n) (a .map .now))
 
 pub count-ones-spec : {M : Type 1} → statement M
 count-ones-spec =
@@ -39,6 +33,6 @@ count-ones-spec =
     (λ c. search needs)
     (λ c. search needs)
     (λ c. search needs)
-    cast-result-2
-    add-result
-    (λ c. last c))
+    (λ c. let s = last c in omega arith)
+    (λ c. let s = last c in omega arith)
+    (λ c. last c .0))

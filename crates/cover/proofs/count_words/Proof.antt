@@ -16,21 +16,16 @@ Inv-loop map n words sum₀ k₀ sum k = (k ≤ words) × (sum ≡ ones (64 * k)
 abbrev μ-loop : tie.MeasureT-loop
 μ-loop map n words sum₀ k₀ sum k = words - k
 
--- the sum with word k
+-- the sum with word k, which is at most the bits up to there
 next : (c : tie.After-u64-at Inv-loop μ-loop)
     → let l = c .before .before in
-    l .loop .sum + Count.ones (c .u64-at .result) ≡ ones (64 * (l .loop .k + 1)) (l .before .before .args .map .now)
+    let m = l .before .before .args .map .now in
+    let n = 64 * (l .loop .k + 1) in
+    (l .loop .sum + Count.ones (c .u64-at .result) ≡ ones n m) × (ones n m ≤ n)
 next c =
     let l = c .before .before in
-    let s = l .before in
-    let m = s .before .args .map .now in
-    omega (arith, ap Count.ones (c .u64-at .ensures), l .loop .inv .1, next-word m (λ n. omega (arith, s .shared-slice-known .given n)) (l .loop .k))
-
-cast-sum : tie.Need-cast-sum Inv-loop μ-loop
-cast-sum c = let l = c .before .before in omega (arith, next c, ones-bound (64 * (l .loop .k + 1)) (l .before .before .args .map .now))
-
-add-sum : tie.Need-add-sum Inv-loop μ-loop
-add-sum c = let l = c .before .before in omega (arith, next c, ones-bound (64 * (l .loop .k + 1)) (l .before .before .args .map .now))
+    let m = l .before .before .args .map .now in
+    (omega (arith, ap Count.ones (c .u64-at .ensures), next-word m (λ i. l .before .shared-slice-known .given i .fits) (l .loop .k)), ones-bound _ m)
 
 returns : tie.Need-returns Inv-loop μ-loop
 returns c =
@@ -46,9 +41,9 @@ count-words-spec =
     (λ c. (omega arith, no-bits _))
     (λ c. search needs)
     (λ c κs. search needs)
-    cast-sum
-    add-sum
+    (λ c. let s = next c in omega arith)
+    (λ c. let s = next c in omega arith)
     (λ c. search needs)
     (λ c. search needs)
-    (λ c. (omega arith, next c))
+    (λ c. (omega arith, next c .0))
     returns)

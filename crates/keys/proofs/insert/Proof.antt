@@ -13,7 +13,9 @@ abbrev μ-loop : tie.MeasureT-loop
 μ-loop keys₀ count key i₀ keys i = i
 
 returns : tie.Need-returns Inv-loop μ-loop
-returns c = inserted-behind _ _ _ _ _ (c .before .before .before .loop .inv) (c .before .before .before .loop .i - 1) _ (omega arith) refl (omega arith) (c .before .before .before .before .pre .1)
+returns c =
+    inserted-behind _ _ _ _ _ (c .before .before .before .loop .inv) (c .before .before .before .loop .i - 1) _ (omega arith) refl (omega arith)
+    (c .before .before .before .before .pre .1)
 
 loop-again : tie.Need-loop-again Inv-loop μ-loop
 loop-again c = inserting-next _ _ _ _ _ (c .before .before .before .loop .inv) (c .before .before .before .loop .i - 1) _ (omega arith) refl (omega arith)

@@ -9,7 +9,8 @@ bit-at-requires : tie.Need-bit-at-requires
 bit-at-requires c κs = omega (arith, c .before .before .before .pre (not-false _ (c .before .if1 .left)))
 
 returns-2 : tie.Need-returns-2
-returns-2 c = rw (not-false (c .before .before .before .before .args .masked) (c .before .before .if1 .left), lt-ltb _ _ (c .before .if2 .taken)) (c .bit-at .ensures)
+returns-2 c =
+    rw (not-false (c .before .before .before .before .args .masked) (c .before .before .if1 .left), lt-ltb _ _ (c .before .if2 .taken)) (c .bit-at .ensures)
 
 returns-3 : tie.Need-returns-3
 returns-3 c = rw (not-false (c .before .before .before .args .masked) (c .before .if1 .left), le-ltb _ _ (c .if2 .left))

@@ -22,7 +22,7 @@ loop-again c =
     let a = s .before .args in (
       omega arith,
       omega arith,
-      full-word-more _ (λ n. omega (arith, s .shared-slice-known .given n)) (a .v) _ _ (l .loop .inv .2)
+      full-word-more _ (λ n. s .shared-slice-known .given n .fits) (a .v) (l .loop .inv .2)
           (sym (c .before .u64-at .ensures) ∙ c .if1 .left ∙ l .before .full-word .ensures),
     )
 

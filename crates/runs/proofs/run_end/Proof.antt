@@ -7,13 +7,13 @@ use Rattle.runs.proofs.run_end.Statement.{statement}
 use Rattle.runs.proofs.run_end.Tie as tie
 
 returns-2 : tie.Need-returns-2
-returns-2 c = run-cut (run-at _ _ _ _ _ _ (omega arith) (c .before .run-in .ensures)) (omega arith) (omega arith)
+returns-2 c = run-cut (run-at _ _ (omega arith) (c .before .run-in .ensures)) (omega arith) (omega arith)
 
 returns-3 : tie.Need-returns-3
-returns-3 c = run-stops (run-at _ _ _ _ _ _ (omega arith) (c .before .before .run-in .ensures)) (omega arith) (omega arith)
+returns-3 c = run-stops (run-at _ _ (omega arith) (c .before .before .run-in .ensures)) (omega arith) (omega arith)
 
 returns-4 : tie.Need-returns-4
-returns-4 c = run-through _ _ _ _ _ _ _ _ (omega arith) (c .before .before .before .run-in .ensures) (omega arith) (c .run-from-byte .ensures)
+returns-4 c = run-through _ _ (omega arith) (c .before .before .before .run-in .ensures) (omega arith) (c .run-from-byte .ensures)
 
 pub run-end-spec : {M : Type 1} → statement M
 run-end-spec =

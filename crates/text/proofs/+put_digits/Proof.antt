@@ -1,6 +1,5 @@
 -- `text::+put_digits` meets its contract.
 use Prim.Native.Nat.{ℕ, _<_}
-use native.Mathlib.Nat.{pos-of-ne-zero}
 use native.Mathlib.Omega.{arith}
 use Rattle.text.proofs.Texts.{appended-none, appended-both, appended-room}
 use Rattle.text.proofs.Digits.{digits-none, digits-one, digits-more, digits-most}
@@ -38,14 +37,13 @@ pub +put-digits-spec : {M : Type 1} → statement M
     (λ c. rw (digits-none _ _ (c .if1 .taken)) (appended-none _ (c .before .pre .1 .0)))
     (λ c. omega arith)
     (λ c. omega arith)
-    (λ c κs. (c .before .before .pre .1 .0, omega (arith, pos-of-ne-zero (c .before .if1 .left))))
+    (λ c κs. (c .before .before .pre .1 .0, omega arith))
     (λ c. rw (digits-one _ _ (c .before .before .if1 .left) (c .before .if2 .taken)) (c .push .ensures))
-    (λ c. omega (arith, pos-of-ne-zero (c .before .if1 .left)))
-    (λ c κs. let one = pos-of-ne-zero (c .before .if1 .left) in (omega arith, (c .before .before .pre .1 .0, omega arith)))
+    (λ c. omega arith)
+    (λ c κs. (omega arith, (c .before .before .pre .1 .0, omega arith)))
     (λ c. omega arith)
     (λ c. omega arith)
     (λ c κs.
-    let one = pos-of-ne-zero (c .before .before .if1 .left) in
     let a = c .put-digits .ensures in
     let room = appended-room _ _ _ _ a (digits-most _ _) in
     (a .clean, omega arith))

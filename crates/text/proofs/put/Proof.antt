@@ -19,7 +19,7 @@ push-requires : tie.Need-push-requires Inv-loop μ-loop
 push-requires c κs =
     let a = c .before .before .loop .inv .1 in
     let s = now (c .before .before .before .before .args .name) in
-    (a .clean, omega (arith, a .length-is, length-take (c .before .before .loop .i) s))
+    (a .clean, omega (arith, length-take (c .before .before .loop .i) s))
 
 loop-again : tie.Need-loop-again Inv-loop μ-loop
 loop-again c =

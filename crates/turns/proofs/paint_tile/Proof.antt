@@ -8,7 +8,8 @@ use Rattle.turns.proofs.paint_tile.Statement.{statement}
 use Rattle.turns.proofs.paint_tile.Tie as tie
 
 abbrev Inv-loop : tie.InvT-loop
-Inv-loop target₀ map₀ w a src b k lines quick n x col end y₀ given₀ target map y given = Rows target₀ map₀ w a src b k lines quick n x col end y target map given
+Inv-loop target₀ map₀ w a src b k lines quick n x col end y₀ given₀ target map y given =
+    Rows target₀ map₀ w a src b k lines quick n x col end y target map given
 
 abbrev μ-loop : tie.MeasureT-loop
 μ-loop target₀ map₀ w a src b k lines quick n x col end y₀ given₀ target map y given = end - y
