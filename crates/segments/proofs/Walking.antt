@@ -13,7 +13,7 @@ use Rattle.format.specs.Segments.{allocatedSize, nextSegment, lengthBad, segmen
 use Rattle.format.specs.declared.Verdict.{Verdict}
 use Rattle.format.specs.declared.Verdict.the-variants.{Accepted, Refused}
 use Rattle.format.proofs.Firsts.{first-passed, first-stop}
-use Rattle.format.proofs.SegmentLaws.{Sized, sizes-ok, length-ok, next-is, segment-ok, walk-next, walked-next, walk-end, walked-end, walked-few}
+use Rattle.format.proofs.SegmentLaws.{sizes-ok, length-ok, next-is, segment-ok, walk-next, walked-next, walk-end, walked-end, walked-few}
 use Rattle.segments.specs.Walk.{WalkAnswered, WalkTable}
 use Rattle.segments.specs.declared.Walked.{Walked}
 
@@ -35,6 +35,10 @@ module _ (bs : List ℕ) (p : ℕ) (h : p < length bs) where
 walked-full : (bs : List ℕ) (p : ℕ) → walkedFrom 0 bs p ≡ []
 unfolding walkedFrom
 walked-full bs p = refl
+
+-- a segment that is not refused, and its AllocatedSize a: it lies in the file
+pub segment-in : (bs : List ℕ) (p : ℕ) (v : Verdict) (a : ℕ) → v ≡ first (segmentRows bs p) → v ≡ Accepted → a ≡ allocatedSize bs p → p + 32 + a ≤ length bs
+segment-in bs p v a j f i = omega (arith, sizes-ok bs p (segment-ok bs p (sym j ∙ f) .sizes) .within, next-is bs p)
 
 -- ---- the loop's invariant: k segments are walked and in the table, and the walk goes on at p
 
@@ -90,15 +94,10 @@ module _ (bs before : List ℕ) (n len : ℕ) (t : List ℕ) (p k : ℕ) (w : Wa
 
     -- it is not refused, and its AllocatedSize is a
     module _ (f : v ≡ Accepted) (a : ℕ) (i : a ≡ allocatedSize bs p) where
-      sized : Sized bs p
-      sized = sizes-ok bs p (segment-ok bs p (sym j ∙ f) .sizes)
-
-      pub turn-within : p + 32 + a ≤ length bs
-      turn-within = omega (arith, sized .within, next-is bs p)
-
       pub turn-next : Walking bs before n len (set t k p) (p + 32 + a) (k + 1)
       turn-next =
           let e = sym j ∙ f in
+          let s = sizes-ok bs p (segment-ok bs p e .sizes) in
           let g : p < length bs = omega arith in
           let q : p + 32 + a ≡ nextSegment bs p = omega (arith, next-is bs p) in
           let c = sym (append-assoc (take k t) (p ∷ []) (walkedFrom (n - suc k) bs (nextSegment bs p))) in
@@ -107,8 +106,8 @@ module _ (bs before : List ℕ) (n len : ℕ) (t : List ℕ) (p k : ℕ) (w : Wa
             len-is = w .len-is;
             few = omega arith;
             size = length-set t k p ∙ w .size;
-            at = sized .within;
-            whole = omega (arith, sized .whole, w .whole, next-is bs p);
+            at = s .within;
+            whole = omega (arith, s .whole, w .whole, next-is bs p);
             verdict = w .verdict ∙ rw less (walk-next bs p (n - (k + 1)) g e);
             passed = w .passed ∙ rw (less, walked-next bs p (n - (k + 1)) g e, add-one k, take-suc-set t k p (omega (arith, w .size))) c;
             rest = drop-set-lt (k + 1) t k p (omega arith) ∙ (sym (drop-drop 1 k t) ∙ (ap (drop 1) (w .rest) ∙ drop-drop 1 k before));
