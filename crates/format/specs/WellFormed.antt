@@ -53,7 +53,7 @@ pub record Chunks (bs : List ℕ) (a end : ℕ) : Type 0 where
 abbrev pub ChunksFill : List ℕ → ℕ → List ℕ → ℕ → Type 0
 ChunksFill ds e bs q = Chunks bs (attachmentPlace ds e bs q) (attachmentPlace ds e bs q + attachmentSize bs q)
 
--- ---- an entry DV at e of the directory at d, and its sub-block; segments are those of the file that it names
+-- ---- an entry DV at e of the directory at d, and its sub-block; segments are those of the scan's one file
 
 pub record Entry (sc : Scan) (segments : List ℕ) (d e : ℕ) : Type 0 where
   pub head-fits : e + 32 ≤ roomEnd (sc .file) d
