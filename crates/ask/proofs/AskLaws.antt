@@ -6,10 +6,10 @@ use native.Mathlib.Omega.{arith}
 use native.Mathlib.Nat.{mul-le-mul}
 use borrow.Author.Tests.{ltb-false, eqb-false}
 use Rattle.format.proofs.Below.{none}
-use Rattle.plane.specs.Tiles.{Window}
+use Rattle.plane.specs.declared.Rect.{Rect}
 use Rattle.question.specs.Question.{windowBad}
 
-pub record Sides (w : Window) : Type 0 where
+pub record Sides (w : Rect) : Type 0 where
   pub wide : 1 ≤ w .width
   pub narrow : w .width ≤ 65536
   pub high : 1 ≤ w .height
@@ -17,7 +17,7 @@ pub record Sides (w : Window) : Type 0 where
   pub right : w .left + w .width ≤ 4294967295
   pub bottom : w .top + w .height ≤ 4294967295
 
-pub sides : (w : Window) → windowBad w ≡ false → Sides w
+pub sides : (w : Rect) → windowBad w ≡ false → Sides w
 unfolding windowBad
 sides w h =
     let wide = eqb-false (w .width) 0 (none _ h 0) in
@@ -32,7 +32,7 @@ sides w h =
     }
 
 -- at most 65,536 rows of 65,536 pixels
-pub area-most : (w : Window) → Sides w → w .height * w .width ≤ 4294967296
+pub area-most : (w : Rect) → Sides w → w .height * w .width ≤ 4294967296
 area-most w s = mul-le-mul (s .low) (s .narrow)
 
 -- of at most 24 bytes

@@ -1,8 +1,8 @@
 // Judges what a question asks and lends: the refusals 20, 21, 22.
 use format::Verdict;
+use plane::Rect;
 use question::Masks;
 use question::WindowRequest;
-use turns::Rect;
 ghost use mathlib.Core.Path.{_≡_};
 ghost use mathlib.Core.Bool.{false};
 ghost use Prim.Native.Nat.{_+_, _≤_, _<_, _^_};
@@ -24,7 +24,7 @@ pub fn masks_on(m: Masks) -> bool
 // The window in plane coordinates: the signed ones plus 2^31.
 pub fn window_of(f: WindowRequest) -> Rect
     requires { ⌜ (f .width ≤ 65536) × (f .height ≤ 65536) ⌝ }
-    ensures { λ r. ⌜ Turns.windowOf r ≡ requestWindow f ⌝ }
+    ensures { λ r. ⌜ r ≡ requestWindow f ⌝ }
 {
     let left = f.left;
     let top = f.top;

@@ -26,8 +26,9 @@ use Rattle.plane.specs.Sums.{sum, tab}
 use Rattle.plane.specs.Paint.{bitIn, bit, pack, paint, mark, clear}
 use Rattle.plane.specs.Turns.{Kind, plain, quick, turn, run, below, insert, bottomFirst}
 use Rattle.plane.specs.Turns as Turns
+use Rattle.plane.specs.Tiles.{covers}
 use Rattle.selection.specs.Select.{askedStart, tileStart, free, startsThere, selects}
-use Rattle.tiles.specs.FileTile.{rankOf, rectangle, covers, meets, entryTile, fileTile, tilesBelow}
+use Rattle.tiles.specs.FileTile.{rankOf, rectangle, meets, entryTile, fileTile, tilesBelow}
 use Rattle.question.specs.Question.{windowBad, pixelBad, lentBad, askRows, typeBad, agreeRows}
 use Rattle.question.specs.Call.{Asked, callVerdict, selected, targetAfter, mapAfter}
 use Rattle.question.specs.declared.Masks.{Masks}

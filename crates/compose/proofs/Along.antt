@@ -7,10 +7,11 @@ use native.Mathlib.Omega.{arith}
 use Rattle.format.specs.Scan.{Scan}
 use Rattle.format.specs.Entry.{filePosition}
 use Rattle.format.specs.Directory.{entryPlace}
-use Rattle.plane.specs.Tiles.{Tile, Window, area, givesAt}
+use Rattle.plane.specs.Tiles.{Tile, area, givesAt}
 use Rattle.plane.specs.Turns.{Kind, run, start, compose}
 use Rattle.plane.specs.Demand2.{Room}
 use Rattle.plane.proofs.Skip.{Apart, skip-compose}
+use Rattle.plane.specs.declared.Rect.{Rect}
 use Rattle.tiles.specs.FileTile.{meets, rectangle, fileTile, tilesBelow}
 use Rattle.tiles.proofs.Rectangles.{gives-none}
 use Rattle.question.proofs.Ranks.{tiles-entry, tiles-ranked}
@@ -18,11 +19,11 @@ use Rattle.compose.specs.Steps.{chosenIn, takesTurn, keysBelow, tileOfKe
 use Rattle.compose.proofs.KeyTiles.{key-tiles, turn-tiles, turn-order, meetsWindow, file-meets}
 
 -- a tile of an entry that does not meet the window gives none of its pixels
-apart-entry : (sc : Scan) (on : Bool) (w : Window) (k : ℕ) → meets (rectangle (sc .file) (entryPlace (sc .file) k)) w ≡ false → 1 ≤ w .width → (p : ℕ) → p < area w → givesAt w (fileTile sc on k) p ≡ false
+apart-entry : (sc : Scan) (on : Bool) (w : Rect) (k : ℕ) → meets (rectangle (sc .file) (entryPlace (sc .file) k)) w ≡ false → 1 ≤ w .width → (p : ℕ) → p < area w → givesAt w (fileTile sc on k) p ≡ false
 unfolding fileTile
 apart-entry sc on w k e h p l = gives-none (sc .file) on k (entryPlace (sc .file) k) (filePosition (sc .file) (entryPlace (sc .file) k)) w e h p l
 
-module _ (sc : Scan) (on : Bool) (table : List ℕ) (w : Window) where
+module _ (sc : Scan) (on : Bool) (table : List ℕ) (w : Rect) where
   apart : (n : ℕ) → n ≤ 4096 → 1 ≤ w .width → Apart w (meetsWindow sc on table w) (tilesBelow n sc on (chosenIn table))
   apart n h wide t i e p l =
       let j = tiles-entry sc on (chosenIn table) n i in

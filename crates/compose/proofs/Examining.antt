@@ -17,10 +17,8 @@ use Rattle.format.specs.Directory.{tileCount, entryPlace}
 use Rattle.format.specs.Rules.{verdict}
 use Rattle.format.specs.declared.Verdict.{Verdict}
 use Rattle.format.specs.declared.Verdict.the-variants.{Accepted, Refused}
-use Rattle.plane.specs.Tiles.{Window}
+use Rattle.plane.specs.declared.Rect.{Rect}
 use Rattle.plane.specs.Turns.{Painting, Kind, compose}
-use Rattle.turns.specs.TileOf.{windowOf}
-use Rattle.turns.specs.declared.Rect.{Rect}
 use Rattle.tiles.specs.FileTile.{rectangle, meets, tilesBelow}
 use Rattle.selection.specs.Select.{selects, startsThere}
 use Rattle.selection.specs.Table.{Selection}
@@ -82,7 +80,7 @@ rows-ext zero f g h = refl
 rows-ext (suc n) f g h = rw (rows-ext n f g (λ k l. h k (omega arith)), h n (omega arith))
 
 pub agreed : (sc : Scan) (starts : List ℤ) (anyScene : Bool) (table : List ℕ) (n : ℕ) (w : Rect) (f : WindowRequest) (v : Verdict) → Selects sc starts anyScene table → n ≡ tileCount (sc .file)
-    → windowOf w ≡ requestWindow f → v ≡ first (rowsBelow n (agreeRow (sc .file) table w (f .«pixel_type»))) → v ≡ first (agreeRows (sc .file) (λ k. selects (sc .file) starts anyScene (entryPlace (sc .file) k)) f)
+    → w ≡ requestWindow f → v ≡ first (rowsBelow n (agreeRow (sc .file) table w (f .«pixel_type»))) → v ≡ first (agreeRows (sc .file) (λ k. selects (sc .file) starts anyScene (entryPlace (sc .file) k)) f)
 unfolding agreeRows
 agreed sc starts anyScene table n w f v s e i j =
     j ∙ ap first (ap (λ (m : ℕ). rowsBelow m (agreeRow (sc .file) table w (f .«pixel_type»))) e ∙ rows-ext (tileCount (sc .file)) _ _ (λ k h. rw (i, s .as-asked k h)))
@@ -92,19 +90,19 @@ agreed sc starts anyScene table n w f v s e i j =
 pub sides-fit : (f : WindowRequest) → windowBad (requestWindow f) ≡ false → (f .width ≤ 65536) × (f .height ≤ 65536)
 sides-fit f h = let p = window-ok (requestWindow f) h in (p .narrow, p .low)
 
-pub edges-fit : (w : Rect) (v : Window) → windowOf w ≡ v → windowBad v ≡ false → Edges w
+pub edges-fit : (w : Rect) (v : Rect) → w ≡ v → windowBad v ≡ false → Edges w
 edges-fit w v e h =
-    let p = window-ok (windowOf w) (rw e h) in
+    let p = window-ok w (rw e h) in
     record { right = omega (arith, p .right); bottom = omega (arith, p .bottom) }
 
 -- a tile that meets the window, where 23 is not given
-same-type : (sc : Scan) (w : Window) (t e : ℕ) → meets (rectangle (sc .file) e) w ≡ true → typeBad (sc .file) w t e ≡ false → not (eqb (pixelType (sc .file) e) t) ≡ false
+same-type : (sc : Scan) (w : Rect) (t e : ℕ) → meets (rectangle (sc .file) e) w ≡ true → typeBad (sc .file) w t e ≡ false → not (eqb (pixelType (sc .file) e) t) ≡ false
 unfolding typeBad
 same-type sc w t e h k = rw h at k
 
 -- ---- an accepted call
 
-module _ (a : Asked) (t m table : List ℕ) (w : Rect) (e : windowOf w ≡ askedWindow a) (s : Selects (a .scan) (a .starts) (a .anyScene) table)
+module _ (a : Asked) (t m table : List ℕ) (w : Rect) (e : w ≡ askedWindow a) (s : Selects (a .scan) (a .starts) (a .anyScene) table)
     (v : callVerdict a (length t) (length m) ≡ Accepted) where
   pub plane-room : PlaneRoom t m (a .scan) table (a .background) w (a .request .«pixel_type»)
   plane-room =
@@ -116,10 +114,10 @@ module _ (a : Asked) (t m table : List ℕ) (w : Rect) (e : windowOf w ≡ asked
         room = rw e (room a t m v);
         small = rw e (mul-le-mul (p .low) (p .narrow));
         ground = pixel-ok (a .request .«pixel_type») (a .background) (ok .pixel) .1;
-        typed = λ k h c. typed k (chosenIn table k) (meets (rectangle (a .scan .file) (entryPlace (a .scan .file) k)) (windowOf w)) refl refl c (ok .agree k h) (s .as-asked k h);
+        typed = λ k h c. typed k (chosenIn table k) (meets (rectangle (a .scan .file) (entryPlace (a .scan .file) k)) w) refl refl c (ok .agree k h) (s .as-asked k h);
       }
     where
-      typed : (k : ℕ) (b c : Bool) → chosenIn table k ≡ b → meets (rectangle (a .scan .file) (entryPlace (a .scan .file) k)) (windowOf w) ≡ c → cond b c false ≡ true
+      typed : (k : ℕ) (b c : Bool) → chosenIn table k ≡ b → meets (rectangle (a .scan .file) (entryPlace (a .scan .file) k)) w ≡ c → cond b c false ≡ true
           → cond (Call.chosen a k) (typeBad (a .scan .file) (askedWindow a) (a .request .«pixel_type») (entryPlace (a .scan .file) k)) false ≡ false
           → chosenIn table k ≡ Call.chosen a k
           → pixelType (a .scan .file) (entryPlace (a .scan .file) k) ≡ a .request .«pixel_type»
@@ -134,7 +132,7 @@ module _ (a : Asked) (t m table : List ℕ) (w : Rect) (e : windowOf w ≡ asked
     unfolding selected
     whole-call =
         d .painting
-        ∙ ap (λ (v : Window). compose k v (askedBytes a) (a .background) (tilesBelow (tileCount (a .scan .file)) (a .scan) on (chosenIn table)) t m) e
+        ∙ ap (λ (v : Rect). compose k v (askedBytes a) (a .background) (tilesBelow (tileCount (a .scan .file)) (a .scan) on (chosenIn table)) t m) e
         ∙ ap (λ (b : Bool). compose k (askedWindow a) (askedBytes a) (a .background) (tilesBelow (tileCount (a .scan .file)) (a .scan) b (chosenIn table)) t m) o
         ∙ ap (λ l. compose k (askedWindow a) (askedBytes a) (a .background) l t m)
         (tiles-ext (tileCount (a .scan .file)) (a .scan) (masksOn (a .request .masks)) (chosenIn table) (Call.chosen a) (s .as-asked))

@@ -10,9 +10,7 @@ use lib.Dec.{eqb}
 use borrow.Author.Tests.{eqb-false}
 use Rattle.format.specs.Scan.{scanOf}
 use Rattle.format.specs.Directory.{tileCount, entryPlace}
-use Rattle.plane.specs.Tiles.{Window}
-use Rattle.turns.specs.TileOf.{windowOf}
-use Rattle.turns.specs.declared.Rect.{Rect}
+use Rattle.plane.specs.declared.Rect.{Rect}
 use Rattle.keys.specs.Keys.{insertKey, Rising}
 use Rattle.keys.proofs.KeyLaws.{rising-insert}
 use Rattle.tiles.specs.FileTile.{rankOf, rectangle, meets}
@@ -24,7 +22,7 @@ use Rattle.compose.proofs.Agreeing.{table-place, table-listed}
 
 -- ---- the keys rise
 
-pub keys-rising : (n : ℕ) (bs table : List ℕ) (w : Window) → n ≤ 4096 → Rising (keysBelow n bs table w)
+pub keys-rising : (n : ℕ) (bs table : List ℕ) (w : Rect) → n ≤ 4096 → Rising (keysBelow n bs table w)
 unfolding keysBelow
 keys-rising zero bs table w h = λ i j u k. absurd (omega arith)
 keys-rising (suc n) bs table w h = go (takesTurn bs table w n) (keys-rising n bs table w (omega arith))
@@ -42,11 +40,11 @@ keys-rising (suc n) bs table w h = go (takesTurn bs table w n) (keys-rising n bs
 -- ---- the loop
 
 module _ (bs table : List ℕ) (w : Rect) where
-  pub gather-start : (keys : List ℕ) → length keys ≡ 4096 → Gathered 0 bs table (windowOf w) keys 0
+  pub gather-start : (keys : List ℕ) → length keys ≡ 4096 → Gathered 0 bs table w keys 0
   unfolding keysBelow
   gather-start keys e = record { size = e; few = omega arith; keys-are = refl }
 
-  module _ (c : Chosen (scanOf bs) table) (edges : Edges w) (k : ℕ) (h : k < tileCount bs) (keys : List ℕ) (count : ℕ) (g : Gathered k bs table (windowOf w) keys count) where
+  module _ (c : Chosen (scanOf bs) table) (edges : Edges w) (k : ℕ) (h : k < tileCount bs) (keys : List ℕ) (count : ℕ) (g : Gathered k bs table w keys count) where
     below : k < 4096
     below = omega (arith, tiled (scanOf bs) (c .accepted) .few)
 
@@ -55,12 +53,12 @@ module _ (bs table : List ℕ) (w : Rect) where
       size = g .size;
       few = g .few;
       number = below;
-      rising = rw (g .keys-are) (keys-rising k bs table (windowOf w) (omega (arith, below)));
+      rising = rw (g .keys-are) (keys-rising k bs table w (omega (arith, below)));
       listed = table-listed bs table c k h;
       edges = edges;
     }
 
-    pub gather-next : (keys′ : List ℕ) (r : ℕ) → Added bs keys count k (getD table k 0) w keys′ r → Gathered (k + 1) bs table (windowOf w) keys′ r
+    pub gather-next : (keys′ : List ℕ) (r : ℕ) → Added bs keys count k (getD table k 0) w keys′ r → Gathered (k + 1) bs table w keys′ r
     unfolding keysBelow
     gather-next keys′ r a = record {
       size = a .size;
@@ -69,7 +67,7 @@ module _ (bs table : List ℕ) (w : Rect) where
     }
       where
         go : (b : Bool) → eqb (getD table k 0) 0 ≡ b
-            → cond (cond (not b) (meets (rectangle bs (getD table k 0)) (windowOf w)) false) (insertKey (rankOf bs k (getD table k 0)) (keysBelow k bs table (windowOf w))) (keysBelow k bs table (windowOf w))
-            ≡ cond (cond (not b) (meets (rectangle bs (entryPlace bs k)) (windowOf w)) false) (insertKey (rankOf bs k (entryPlace bs k)) (keysBelow k bs table (windowOf w))) (keysBelow k bs table (windowOf w))
+            → cond (cond (not b) (meets (rectangle bs (getD table k 0)) w) false) (insertKey (rankOf bs k (getD table k 0)) (keysBelow k bs table w)) (keysBelow k bs table w)
+            ≡ cond (cond (not b) (meets (rectangle bs (entryPlace bs k)) w) false) (insertKey (rankOf bs k (entryPlace bs k)) (keysBelow k bs table w)) (keysBelow k bs table w)
         go true e = refl
         go false e = rw (table-place bs table c k h (eqb-false (getD table k 0) 0 e))

@@ -8,9 +8,10 @@ use lib.ListN.{length, getD}
 use lib.Dec.{leb}
 use Rattle.format.specs.Scan.{Scan}
 use Rattle.format.specs.Directory.{entryPlace}
-use Rattle.plane.specs.Tiles.{Tile, Window}
+use Rattle.plane.specs.Tiles.{Tile}
 use Rattle.plane.specs.Turns.{Kind, plain, quick, below, insert, bottomFirst, order}
 use Rattle.plane.proofs.Skip.{keep}
+use Rattle.plane.specs.declared.Rect.{Rect}
 use Rattle.keys.specs.Keys.{insertKey}
 use Rattle.tiles.specs.FileTile.{rankOf, rectangle, meets, entryTile, fileTile, tilesBelow}
 use Rattle.question.proofs.Ranks.{rank-entry}
@@ -26,7 +27,7 @@ below-is : (s t : Tile) (a b : ℕ) → s .rank ≡ a → t .rank ≡ b → belo
 unfolding below
 below-is s t a b e f = rw (e, f)
 
-module _ (sc : Scan) (on : Bool) (table : List ℕ) (w : Window) where
+module _ (sc : Scan) (on : Bool) (table : List ℕ) (w : Rect) where
   -- what a key of an entry below n is: the rank of that entry's tile, which takes a turn
   pub record Key (n q : ℕ) : Type 0 where
     pub within : q % 4096 < n

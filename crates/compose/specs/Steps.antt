@@ -13,14 +13,13 @@ use Rattle.format.specs.Directory.{tileCount, entryPlace}
 use Rattle.format.specs.Rules.{verdict}
 use Rattle.format.specs.declared.Verdict.{Verdict}
 use Rattle.format.specs.declared.Verdict.the-variants.{Accepted}
-use Rattle.plane.specs.Tiles.{Tile, Window, area}
+use Rattle.plane.specs.Tiles.{Tile, area}
 use Rattle.plane.specs.Paint.{ones}
 use Rattle.plane.specs.Turns.{Painting, Kind, plain, quick, run, start, compose}
 use Rattle.plane.specs.Demand2.{Room}
+use Rattle.plane.specs.declared.Rect.{Rect}
 use Rattle.keys.specs.Keys.{insertKey, Rising}
 use Rattle.subblocks.specs.Judged.{Listed}
-use Rattle.turns.specs.TileOf.{windowOf}
-use Rattle.turns.specs.declared.Rect.{Rect}
 use Rattle.tiles.specs.FileTile.{rankOf, rectangle, meets, fileTile, tilesBelow}
 use Rattle.selection.specs.Select.{selects}
 use Rattle.question.specs.Question.{askRows, agreeRows}
@@ -48,16 +47,16 @@ pub record Edges (w : Rect) : Type 0 where
 -- ---- keys
 
 -- entry k takes a turn: it is chosen, and its tile meets the window
-abbrev pub takesTurn : List ℕ → List ℕ → Window → ℕ → Bool
+abbrev pub takesTurn : List ℕ → List ℕ → Rect → ℕ → Bool
 takesTurn bs table w k = cond (chosenIn table k) (meets (rectangle bs (entryPlace bs k)) w) false
 
 -- the ranks of the tiles below n that take a turn, rising
-unfoldable pub keysBelow : ℕ → List ℕ → List ℕ → Window → List ℕ
+unfoldable pub keysBelow : ℕ → List ℕ → List ℕ → Rect → List ℕ
 keysBelow zero bs table w = []
 keysBelow (suc n) bs table w = cond (takesTurn bs table w n) (insertKey (rankOf bs n (entryPlace bs n)) (keysBelow n bs table w)) (keysBelow n bs table w)
 
 -- the first r of the keys are those of the entries below n
-pub record Gathered (n : ℕ) (bs table : List ℕ) (w : Window) (keys : List ℕ) (r : ℕ) : Type 0 where
+pub record Gathered (n : ℕ) (bs table : List ℕ) (w : Rect) (keys : List ℕ) (r : ℕ) : Type 0 where
   pub size : length keys ≡ 4096
   pub few : r ≤ n
   pub keys-are : take r keys ≡ keysBelow n bs table w
@@ -74,7 +73,7 @@ pub record AddRoom (bs keys : List ℕ) (count k e : ℕ) (w : Rect) : Type 0 wh
 pub record Added (bs keys : List ℕ) (count k e : ℕ) (w : Rect) (keys′ : List ℕ) (r : ℕ) : Type 0 where
   pub size : length keys′ ≡ 4096
   pub most : r ≤ count + 1
-  pub keys-are : take r keys′ ≡ cond (cond (not (eqb e 0)) (meets (rectangle bs e) (windowOf w)) false) (insertKey (rankOf bs k e) (take count keys)) (take count keys)
+  pub keys-are : take r keys′ ≡ cond (cond (not (eqb e 0)) (meets (rectangle bs e) w) false) (insertKey (rankOf bs k e) (take count keys)) (take count keys)
 
 -- ---- turns
 
@@ -91,17 +90,17 @@ turnOrder quick l = reverse l
 -- every tile that takes a turn has the asked type, and the window has room
 pub record RunRoom (t m : List ℕ) (sc : Scan) (table keys : List ℕ) (count : ℕ) (w : Rect) (pixel : ℕ) : Type 0 where
   pub chosen : Chosen sc table
-  pub gathered : Gathered (tileCount (sc .file)) (sc .file) table (windowOf w) keys count
+  pub gathered : Gathered (tileCount (sc .file)) (sc .file) table w keys count
   pub edges : Edges w
-  pub room : Room (windowOf w) (pixelBytes pixel) t m
-  pub small : area (windowOf w) ≤ 4294967296
-  pub typed : (k : ℕ) → k < tileCount (sc .file) → takesTurn (sc .file) table (windowOf w) k ≡ true → pixelType (sc .file) (entryPlace (sc .file) k) ≡ pixel
+  pub room : Room w (pixelBytes pixel) t m
+  pub small : area w ≤ 4294967296
+  pub typed : (k : ℕ) → k < tileCount (sc .file) → takesTurn (sc .file) table w k ≡ true → pixelType (sc .file) (entryPlace (sc .file) k) ≡ pixel
 
 -- target, map and store count after the turns of these tiles, one after the other
 abbrev pub RunDone : Kind → (t m : List ℕ) (sc : Scan) (keys : List ℕ) → ℕ → Rect → ℕ → Bool → (t′ m′ : List ℕ) → ℕ → Type 0
 RunDone k t m sc keys count w pixel on t′ m′ r =
     _≡_ {A = Painting} (record { target = t′; map = m′; stored = r })
-    (run k (windowOf w) (pixelBytes pixel) (turnOrder k (map (tileOfKey sc on) (take count keys))) (record { target = t; map = m; stored = 0 }))
+    (run k w (pixelBytes pixel) (turnOrder k (map (tileOfKey sc on) (take count keys))) (record { target = t; map = m; stored = 0 }))
 
 -- ---- the whole of painting an accepted selection
 
@@ -109,19 +108,19 @@ RunDone k t m sc keys count w pixel on t′ m′ r =
 pub record PlaneRoom (t m : List ℕ) (sc : Scan) (table background : List ℕ) (w : Rect) (pixel : ℕ) : Type 0 where
   pub chosen : Chosen sc table
   pub edges : Edges w
-  pub room : Room (windowOf w) (pixelBytes pixel) t m
-  pub small : area (windowOf w) ≤ 4294967296
+  pub room : Room w (pixelBytes pixel) t m
+  pub small : area w ≤ 4294967296
   pub ground : length background ≡ pixelBytes pixel
-  pub typed : (k : ℕ) → k < tileCount (sc .file) → takesTurn (sc .file) table (windowOf w) k ≡ true → pixelType (sc .file) (entryPlace (sc .file) k) ≡ pixel
+  pub typed : (k : ℕ) → k < tileCount (sc .file) → takesTurn (sc .file) table w k ≡ true → pixelType (sc .file) (entryPlace (sc .file) k) ≡ pixel
 
 -- the start: background, a zero map and a count of 0
 abbrev pub Begun : (t m background : List ℕ) → Rect → ℕ → (t′ m′ : List ℕ) → Type 0
-Begun t m background w pixel t′ m′ = _≡_ {A = Painting} (record { target = t′; map = m′; stored = 0 }) (start (windowOf w) (pixelBytes pixel) background t m)
+Begun t m background w pixel t′ m′ = _≡_ {A = Painting} (record { target = t′; map = m′; stored = 0 }) (start w (pixelBytes pixel) background t m)
 
 pub record PlaneDone (k : Kind) (t m : List ℕ) (sc : Scan) (table background : List ℕ) (w : Rect) (pixel : ℕ) (on : Bool) (t′ m′ : List ℕ) (r : Counts) : Type 0 where
   pub painting : _≡_ {A = Painting} (record { target = t′; map = m′; stored = r .stored })
-      (compose k (windowOf w) (pixelBytes pixel) background (tilesBelow (tileCount (sc .file)) sc on (chosenIn table)) t m)
-  pub covered-is : r .covered ≡ ones (area (windowOf w)) m′
+      (compose k w (pixelBytes pixel) background (tilesBelow (tileCount (sc .file)) sc on (chosenIn table)) t m)
+  pub covered-is : r .covered ≡ ones (area w) m′
 
 -- ---- the whole of refusing: where it accepts, the table holds what the question's starts select
 

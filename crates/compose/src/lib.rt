@@ -1,8 +1,8 @@
 // Composes one plane of a file: select, ask, agree, paint. The plain composer paints bottom tile first, the quick one top tile first.
 use format::Verdict;
+use plane::Rect;
 use question::Composed;
 use question::WindowRequest;
-use turns::Rect;
 ghost use mathlib.Core.Path.{_≡_};
 ghost use mathlib.Core.List.{[], _∷_, map};
 ghost use mathlib.Core.Bool.{Bool, true, false, cond, not};
@@ -18,7 +18,6 @@ ghost use Rattle.plane.specs.Turns.{plain, quick};
 ghost use Rattle.plane.specs.Demand2.{Room};
 ghost use Rattle.format.specs.Rules.{verdict};
 ghost use Rattle.format.specs.declared.Verdict.the-variants.{Accepted};
-ghost use Rattle.turns.specs.TileOf.{windowOf};
 ghost use Rattle.turns.specs.Turned.{kindOf};
 ghost use Rattle.question.specs.Question.{typeBad, windowBad, requestWindow};
 ghost use Rattle.question.specs.Call.{Answered};
@@ -38,7 +37,7 @@ pub struct Counts {
 fn disagrees(s: &[u8], e: u64, w: Rect, t: u64) -> bool
     requires { ⌜ ((e ≡ 0 → ⊥) → Listed (now s) e) ⌝ }
     requires { ⌜ Edges w ⌝ }
-    ensures { λ r. ⌜ r ≡ cond (not (eqb e 0)) (typeBad (now (s .entry)) (windowOf w) t e) false ⌝ }
+    ensures { λ r. ⌜ r ≡ cond (not (eqb e 0)) (typeBad (now (s .entry)) w t e) false ⌝ }
 {
     if e == 0 {
         return false;
@@ -54,7 +53,7 @@ fn disagrees(s: &[u8], e: u64, w: Rect, t: u64) -> bool
 fn agree(s: &[u8], table: &[u64; 4096], n: u64, w: Rect, t: u64) -> Verdict
     requires { ⌜ Chosen (scanOf (now s)) (now table) ⌝ }
     requires { ⌜ (n ≡ tileCount (now s)) × Edges w ⌝ }
-    ensures { λ r. ⌜ r ≡ first (rowsBelow n (λ k. row 23 (entryPlace (now (s .entry)) k) (cond (chosenIn (now (table .entry)) k) (typeBad (now (s .entry)) (windowOf w) t (entryPlace (now (s .entry)) k)) false) ∷ [])) ⌝ }
+    ensures { λ r. ⌜ r ≡ first (rowsBelow n (λ k. row 23 (entryPlace (now (s .entry)) k) (cond (chosenIn (now (table .entry)) k) (typeBad (now (s .entry)) w t (entryPlace (now (s .entry)) k)) false) ∷ [])) ⌝ }
 {
     let mut k: u64 = 0;
     while k < n {
@@ -93,7 +92,7 @@ fn gather(s: &[u8], table: &[u64; 4096], n: u64, w: Rect, keys: &mut [u64; 4096]
     requires { ⌜ Chosen (scanOf (now s)) (now table) ⌝ }
     requires { ⌜ (n ≡ tileCount (now s)) × Edges w ⌝ }
     requires { ⌜ length (now keys) ≡ 4096 ⌝ }
-    ensures { λ r. ⌜ Gathered n (now (s .entry)) (now (table .entry)) (windowOf w) (now (keys .exit)) r ⌝ }
+    ensures { λ r. ⌜ Gathered n (now (s .entry)) (now (table .entry)) w (now (keys .exit)) r ⌝ }
 {
     let mut count: usize = 0;
     let mut k: u64 = 0;
@@ -180,8 +179,8 @@ fn paint_down(
 
 // The start: the background pixel everywhere, and a zero map.
 fn begin(target: &mut [u8], map: &mut [u8], w: Rect, t: u64, background: &[u8])
-    requires { ⌜ Room (windowOf w) (pixelBytes t) (now target) (now map) ⌝ }
-    requires { ⌜ (area (windowOf w) ≤ 4294967296) × (length (now background) ≡ pixelBytes t) ⌝ }
+    requires { ⌜ Room w (pixelBytes t) (now target) (now map) ⌝ }
+    requires { ⌜ (area w ≤ 4294967296) × (length (now background) ≡ pixelBytes t) ⌝ }
     ensures { λ _. ⌜ Begun (now (target .entry)) (now (map .entry)) (now (background .entry)) w t (now (target .exit)) (now (map .exit)) ⌝ }
 {
     let n = w.height * w.width;

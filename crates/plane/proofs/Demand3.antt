@@ -10,7 +10,7 @@ use mathlib.Core.List.{List, [], _∷_, reverse}
 use mathlib.Core.Bool.{and-false, or-true}
 use lib.ListN.{length}
 use Rattle.plane.specs.Sums.{one, sum, count}
-use Rattle.plane.specs.Tiles.{Tile, Window, area, givesAt, Ranked, covered, within, sumOver}
+use Rattle.plane.specs.Tiles.{Tile, area, givesAt, Ranked, covered, within, sumOver}
 use Rattle.plane.specs.Paint.{bit, ones}
 use Rattle.plane.specs.Turns.{Painting, Kind, plain, quick, start, bottomFirst, order, compose, turnTile, before, gave, added}
 use Rattle.plane.specs.Demand2.{Room}
@@ -21,13 +21,14 @@ use Rattle.plane.proofs.RunLaws.{turn-byte, turn-sets, plain-adds, coun
 use Rattle.plane.proofs.OrderLaws.{order-length, order-to, order-from, sort-sum, sort-rising, reverse-falling, rising-at, falling-at}
 use Rattle.plane.proofs.PlaneLaws.{makes, same-pixels, one-plane, plane-ones, within-cut}
 use Rattle.plane.proofs.TurnLaws.{before-first, before-next, before-last, before-room, before-stored, covered-since, quick-times, quick-ones}
+use Rattle.plane.specs.declared.Rect.{Rect}
 
 over-ext : (ts : List Tile) (f g : Tile → ℕ) → ((t : Tile) → f t ≡ g t) → sumOver ts f ≡ sumOver ts g
 unfolding sumOver
 over-ext [] f g e = refl
 over-ext (t ∷ ts) f g e = ap₂ (λ (a c : ℕ). a + c) (e t) (over-ext ts f g e)
 
-cut-halves : (l : Line) (w : Window) → Cuts l w → Proper w → Halves l w
+cut-halves : (l : Line) (w : Rect) → Cuts l w → Proper w → Halves l w
 cut-halves (column c) w h o = record {
   fore-proper = omega arith;
   rear-proper = omega arith;
@@ -54,10 +55,10 @@ cut-halves (row c) w h o = record {
     side i (no e) = inr (omega (arith, lt-of-not-le e))
 
 module _ (b : ℕ) (bg : List ℕ) (ts : List Tile) (d : Ranked ts) where
-  counted : (k : Kind) (w : Window) (t m : List ℕ) → Room w b t m → ones (area w) (compose k w b bg ts t m .map) ≡ within w (covered ts)
+  counted : (k : Kind) (w : Rect) (t m : List ℕ) → Room w b t m → ones (area w) (compose k w b bg ts t m .map) ≡ within w (covered ts)
   counted k w t m r = plane-ones b bg ts w t m (compose k w b bg ts t m .target) (compose k w b bg ts t m .map) (makes w b bg ts t m r d k)
 
-  stored : (k : Kind) (w : Window) (t m : List ℕ) → compose k w b bg ts t m .stored ≡ sum (length ts) (added k w b bg ts t m)
+  stored : (k : Kind) (w : Rect) (t m : List ℕ) → compose k w b bg ts t m .stored ≡ sum (length ts) (added k w b bg ts t m)
   stored k w t m = ap (λ (s : Painting). s .stored) (sym (before-last k w b bg ts t m)) ∙ before-stored k w b bg ts t m (length ts) (le-refl (length ts))
 
   pub demand3 : Demand3 b bg ts

@@ -11,7 +11,7 @@ use lib.Arith.{digits-lt, digits-div, digits-mod}
 use lib.ListN.{getD}
 use lib.Seq.{ext-getD}
 use Rattle.plane.specs.Sums.{one, sum}
-use Rattle.plane.specs.Tiles.{Tile, Window, area, colOf, rowOf, Ranked, covered, within}
+use Rattle.plane.specs.Tiles.{Tile, area, colOf, rowOf, Ranked, covered, within}
 use Rattle.plane.specs.Paint.{bit, ones}
 use Rattle.plane.specs.Turns.{Painting, Kind, plain, quick, start, order, compose, bottomFirst}
 use Rattle.plane.specs.Demand2.{Top, None, Room, Plane}
@@ -21,10 +21,11 @@ use Rattle.plane.proofs.BitLaws.{same-bits}
 use Rattle.plane.proofs.PaintLaws.{paint-length, paint-in, paint-past, clear-length, clear-past, clear-in, clear-bit, cell}
 use Rattle.plane.proofs.RunLaws.{Kept, run-kept, run-bit, plain-byte, quick-byte, run-bytes}
 use Rattle.plane.proofs.OrderLaws.{covered-mem, covered-none, top-or-none, last-top, first-top, order-top, order-none, sort-rising, reverse-falling}
+use Rattle.plane.specs.declared.Rect.{Rect}
 
 -- ---- the start
 
-module _ (w : Window) (b : ℕ) (bg t m : List ℕ) (r : Room w b t m) where
+module _ (w : Rect) (b : ℕ) (bg t m : List ℕ) (r : Room w b t m) where
   pub start-room : Room w b (start w b bg t m .target) (start w b bg t m .map)
   unfolding start
   start-room = record {
@@ -45,7 +46,7 @@ module _ (w : Window) (b : ℕ) (bg t m : List ℕ) (r : Room w b t m) where
 
 -- ---- each composer makes the plane
 
-module _ (w : Window) (b : ℕ) (bg : List ℕ) (ts : List Tile) (t m : List ℕ) (r : Room w b t m) (d : Ranked ts) where
+module _ (w : Rect) (b : ℕ) (bg : List ℕ) (ts : List Tile) (t m : List ℕ) (r : Room w b t m) (d : Ranked ts) where
   at-bit : (k : Kind) (p : ℕ) → p < area w → bit (compose k w b bg ts t m .map) p ≡ (covered (order k ts) (colOf w p) (rowOf w p) || false)
   at-bit k p hp =
       run-bit w b p hp k (order k ts) (start w b bg t m) (start-room w b bg t m r)
@@ -115,7 +116,7 @@ module _ (w : Window) (b : ℕ) (bg : List ℕ) (ts : List Tile) (t m : List ℕ
 -- ---- its pixels, in whichever window
 
 module _ (b : ℕ) (bg : List ℕ) (ts : List Tile) where
-  pub same-pixels : (w w′ : Window) (t₀ m₀ t₀′ m₀′ : List ℕ) (s s′ : Painting)
+  pub same-pixels : (w w′ : Rect) (t₀ m₀ t₀′ m₀′ : List ℕ) (s s′ : Painting)
       → Plane w b bg ts t₀ m₀ (s .target) (s .map) → Plane w′ b bg ts t₀′ m₀′ (s′ .target) (s′ .map) → SamePixels b w w′ s s′
   same-pixels w w′ t₀ m₀ t₀′ m₀′ s s′ a a′ x y x′ y′ hx hy hx′ hy′ eu ev = go (top-or-none (w .left + x) (w .top + y) ts)
     where
@@ -132,7 +133,7 @@ module _ (b : ℕ) (bg : List ℕ) (ts : List Tile) where
           (λ j h. g .0 j h ∙ sym (g′ .0 j h), g .1 ∙ sym (g′ .1))
 
   -- and the plane of one window is one alone
-  pub one-plane : (w : Window) (t m : List ℕ) (s s′ : Painting) → Room w b t m
+  pub one-plane : (w : Rect) (t m : List ℕ) (s s′ : Painting) → Room w b t m
       → Plane w b bg ts t m (s .target) (s .map) → Plane w b bg ts t m (s′ .target) (s′ .map) → (s .target ≡ s′ .target) × (s .map ≡ s′ .map)
   one-plane w t m s s′ r a a′ = (
     ext-getD 0 (s .target) (s′ .target) (a .target-length ∙ sym (a′ .target-length)) (λ k _. bytes k (decLt k (area w * b))),
@@ -167,7 +168,7 @@ module _ (b : ℕ) (bg : List ℕ) (ts : List Tile) where
 
   -- ---- its count
 
-  pub plane-ones : (w : Window) (t₀ m₀ t m : List ℕ) → Plane w b bg ts t₀ m₀ t m → ones (area w) m ≡ within w (covered ts)
+  pub plane-ones : (w : Rect) (t₀ m₀ t m : List ℕ) → Plane w b bg ts t₀ m₀ t m → ones (area w) m ≡ within w (covered ts)
   unfolding within
   plane-ones w t₀ m₀ t m a =
       sum-rows (w .height) (w .width) _
@@ -179,7 +180,7 @@ module _ (b : ℕ) (bg : List ℕ) (ts : List Tile) where
       go x y hx hy (inr n) = a .ground x y hx hy n .1 ∙ sym (covered-none (w .left + x) (w .top + y) ts n)
 
 -- a count of plane pixels over a window is the sum of those over its two halves
-pub within-cut : (l : Line) (w : Window) → Cuts l w → (f : ℕ → ℕ → Bool) → within w f ≡ within (fore l w) f + within (rear l w) f
+pub within-cut : (l : Line) (w : Rect) → Cuts l w → (f : ℕ → ℕ → Bool) → within w f ≡ within (fore l w) f + within (rear l w) f
 unfolding within
 within-cut (column c) w h f =
     sum-ext (w .height) _ _ (λ y hy. split y) ∙ sum-plus (w .height) _ _

@@ -9,23 +9,24 @@ use lib.Arith.{digits-div, digits-mod}
 use lib.ListN.{length, getD}
 use borrow.Author.Tests.{lt-ltb, le-ltb}
 use Rattle.plane.specs.Sums.{one, count}
-use Rattle.plane.specs.Tiles.{Tile, Window, area, colOf, rowOf, givesAt, covered, within, sumOver}
+use Rattle.plane.specs.Tiles.{Tile, area, colOf, rowOf, givesAt, covered, within, sumOver}
 use Rattle.plane.specs.Paint.{bit, ones}
 use Rattle.plane.specs.Turns.{Painting, Kind, plain, quick, turnGives, turnAdds, turn, run}
 use Rattle.plane.specs.Demand2.{Room}
 use Rattle.plane.proofs.SumLaws.{sum-ext, sum-plus, sum-rows, count-le}
 use Rattle.plane.proofs.PaintLaws.{paint-length, paint-in, paint-past, mark-length, mark-past, mark-byte, mark-bit}
+use Rattle.plane.specs.declared.Rect.{Rect}
 
 -- ---- what no turn touches
 
-pub record Kept (w : Window) (b : ℕ) (s s′ : Painting) : Type 0 where
+pub record Kept (w : Rect) (b : ℕ) (s s′ : Painting) : Type 0 where
   pub target-length : length (s′ .target) ≡ length (s .target)
   pub map-length : length (s′ .map) ≡ length (s .map)
   pub target-past : (k : ℕ) → area w * b ≤ k → getD (s′ .target) k 0 ≡ getD (s .target) k 0
   pub map-past : (k : ℕ) → area w ≤ 8 * k → getD (s′ .map) k 0 ≡ getD (s .map) k 0
   pub unused : (p : ℕ) → area w ≤ p → p < 8 * length (s .map) → bit (s′ .map) p ≡ bit (s .map) p
 
-module _ (w : Window) (b : ℕ) where
+module _ (w : Rect) (b : ℕ) where
   kept-self : (s : Painting) → Kept w b s s
   kept-self s = record { target-length = refl; map-length = refl; target-past = λ k h. refl; map-past = λ k h. refl; unused = λ p h l. refl }
 
@@ -110,7 +111,7 @@ unfoldable pub firstByte : List Tile → ℕ → ℕ → ℕ → ℕ
 firstByte [] u v j = 0
 firstByte (t ∷ ts) u v j = cond (t .gives u v) (t .byte u v j) (firstByte ts u v j)
 
-module _ (w : Window) (b p : ℕ) (hp : p < area w) where
+module _ (w : Rect) (b p : ℕ) (hp : p < area w) where
   pub turn-byte : (k : Kind) (t : Tile) (s : Painting) → Room w b (s .target) (s .map) → (j : ℕ) → j < b
       → getD (turn k w b t s .target) (p * b + j) 0
       ≡ cond (turnGives k w t (s .map) p) (t .byte (colOf w p) (rowOf w p) j) (getD (s .target) (p * b + j) 0)
@@ -170,7 +171,7 @@ module _ (w : Window) (b p : ℕ) (hp : p < area w) where
 
 -- ---- counts
 
-module _ (w : Window) (b : ℕ) where
+module _ (w : Rect) (b : ℕ) where
   pub quick-adds : (t : Tile) (s : Painting) → Room w b (s .target) (s .map) → ones (area w) (turn quick w b t s .map) ≡ ones (area w) (s .map) + turnAdds quick w t (s .map)
   quick-adds t s r =
       sum-ext (area w) _ _ (λ p hp. quick-one w b p hp t s r) ∙ sum-plus (area w) (λ p. one (bit (s .map) p)) (λ p. one (turnGives quick w t (s .map) p))
@@ -192,14 +193,14 @@ module _ (w : Window) (b : ℕ) where
       more n n′ e h = omega arith
 
 -- a count over pixel numbers, by rows and columns
-pub count-within : (w : Window) (f : ℕ → ℕ → Bool) → count (area w) (λ p. f (colOf w p) (rowOf w p)) ≡ within w f
+pub count-within : (w : Rect) (f : ℕ → ℕ → Bool) → count (area w) (λ p. f (colOf w p) (rowOf w p)) ≡ within w f
 unfolding within
 count-within w f =
     sum-rows (w .height) (w .width) _
     ∙ sum-ext (w .height) _ _ (λ y hy. sum-ext (w .width) _ _ (λ x hx. rw (digits-mod y hx, digits-div y hx)))
 
 -- two lists of turns, one after the other
-pub run-append : (k : Kind) (w : Window) (b : ℕ) (ts us : List Tile) (s : Painting) → run k w b (ts ++ us) s ≡ run k w b us (run k w b ts s)
+pub run-append : (k : Kind) (w : Rect) (b : ℕ) (ts us : List Tile) (s : Painting) → run k w b (ts ++ us) s ≡ run k w b us (run k w b ts s)
 unfolding run
 run-append k w b [] us s = refl
 run-append k w b (t ∷ ts) us s = run-append k w b ts us (turn k w b t s)

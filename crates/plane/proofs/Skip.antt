@@ -8,7 +8,7 @@ use mathlib.Core.List.{List, [], _∷_, _++_, reverse, reverse-cons, append-nil,
 use mathlib.Core.Bool.{Bool, true, false, cond, not, _&&_, _||_, true≢false}
 use lib.ListN.{getD}
 use Rattle.plane.specs.Sums.{one}
-use Rattle.plane.specs.Tiles.{Tile, Window, Ranked, area, colOf, rowOf, givesAt}
+use Rattle.plane.specs.Tiles.{Tile, Ranked, area, colOf, rowOf, givesAt}
 use Rattle.plane.specs.Paint.{bit}
 use Rattle.plane.specs.Turns.{Painting, Kind, plain, quick, turnGives, turnAdds, turn, run, start, order, bottomFirst, compose}
 use Rattle.plane.specs.Demand2.{Room}
@@ -19,23 +19,24 @@ use Rattle.plane.proofs.RunLaws.{room-kept, turn-kept}
 use Rattle.plane.proofs.OrderLaws.{Rising, sort-rising, sort-from, sort-to, order-from}
 use Rattle.plane.proofs.PlaneLaws.{start-room}
 use Rattle.plane.proofs.SortedRuns.{sorted}
+use Rattle.plane.specs.declared.Rect.{Rect}
 
 -- ---- one turn
 
 -- A turn packs the map's bytes again, so they have to be bytes. Those of a run's start are, and a turn leaves them so.
-abbrev pub MapBytes : Window → List ℕ → Type 0
+abbrev pub MapBytes : Rect → List ℕ → Type 0
 MapBytes w m = (i : ℕ) → 8 * i < area w → getD m i 0 < 256
 
-pub start-bytes : (w : Window) (b : ℕ) (bg t m : List ℕ) → Room w b t m → MapBytes w (start w b bg t m .map)
+pub start-bytes : (w : Rect) (b : ℕ) (bg t m : List ℕ) → Room w b t m → MapBytes w (start w b bg t m .map)
 unfolding start
 start-bytes w b bg t m r i l = rw (clear-in (area w) m i (omega (arith, r .map)) l) (omega arith)
 
-pub turn-bytes : (k : Kind) (w : Window) (b : ℕ) (t : Tile) (s : Painting) → Room w b (s .target) (s .map) → MapBytes w (turn k w b t s .map)
+pub turn-bytes : (k : Kind) (w : Rect) (b : ℕ) (t : Tile) (s : Painting) → Room w b (s .target) (s .map) → MapBytes w (turn k w b t s .map)
 unfolding turn
 turn-bytes k w b t s r i l = mark-byte (area w) _ (s .map) i (omega (arith, r .map)) l
 
 -- a turn that gives nothing leaves target, map and store count as they were
-pub turn-nothing : (k : Kind) (w : Window) (b : ℕ) (t : Tile) (s : Painting) → 1 ≤ b → MapBytes w (s .map) → ((p : ℕ) → p < area w → turnGives k w t (s .map) p ≡ false)
+pub turn-nothing : (k : Kind) (w : Rect) (b : ℕ) (t : Tile) (s : Painting) → 1 ≤ b → MapBytes w (s .map) → ((p : ℕ) → p < area w → turnGives k w t (s .map) p ≡ false)
     → turn k w b t s ≡ s
 unfolding turn
 turn-nothing k w b t s hb h e i = record {
@@ -48,7 +49,7 @@ turn-nothing k w b t s hb h e i = record {
     none = ap (λ (n : ℕ). s .stored + n) (sum-ext (area w) _ (λ p. 0) (λ p l. ap one (e p l)) ∙ sum-zero (area w)) ∙ add-zero (s .stored)
 
 -- so does that of a tile that gives no pixel of the window, in either composer
-pub turn-apart : (k : Kind) (w : Window) (b : ℕ) (t : Tile) (s : Painting) → 1 ≤ b → MapBytes w (s .map) → ((p : ℕ) → p < area w → givesAt w t p ≡ false)
+pub turn-apart : (k : Kind) (w : Rect) (b : ℕ) (t : Tile) (s : Painting) → 1 ≤ b → MapBytes w (s .map) → ((p : ℕ) → p < area w → givesAt w t p ≡ false)
     → turn k w b t s ≡ s
 turn-apart plain w b t s hb h e = turn-nothing plain w b t s hb h e
 turn-apart quick w b t s hb h e = turn-nothing quick w b t s hb h (λ p l. ap (λ (x : Bool). x && not (bit (s .map) p)) (e p l))
@@ -61,10 +62,10 @@ keep f [] = []
 keep f (t ∷ ts) = cond (f t) (t ∷ keep f ts) (keep f ts)
 
 -- each of the tiles that does not pass the test gives no pixel of the window
-abbrev pub Apart : Window → (Tile → Bool) → List Tile → Type 0
+abbrev pub Apart : Rect → (Tile → Bool) → List Tile → Type 0
 Apart w meets ts = (t : Tile) → List·Memᴰ t ts → meets t ≡ false → (p : ℕ) → p < area w → givesAt w t p ≡ false
 
-module _ (w : Window) (b : ℕ) (meets : Tile → Bool) where
+module _ (w : Rect) (b : ℕ) (meets : Tile → Bool) where
   pub skip : (k : Kind) (ts : List Tile) → Apart w meets ts → (s : Painting) → Room w b (s .target) (s .map) → MapBytes w (s .map)
       → run k w b ts s ≡ run k w b (keep meets ts) s
   unfolding run keep
@@ -132,7 +133,7 @@ module _ (f : Tile → Bool) where
   keep-order plain ts d = keep-sort ts d
   keep-order quick ts d = keep-reverse (bottomFirst ts) ∙ ap reverse (keep-sort ts d)
 
-pub skip-compose : (w : Window) (b : ℕ) (meets : Tile → Bool) (k : Kind) (bg : List ℕ) (ts : List Tile) (t m : List ℕ) → Ranked ts → Room w b t m → Apart w meets ts
+pub skip-compose : (w : Rect) (b : ℕ) (meets : Tile → Bool) (k : Kind) (bg : List ℕ) (ts : List Tile) (t m : List ℕ) → Ranked ts → Room w b t m → Apart w meets ts
     → compose k w b bg ts t m ≡ compose k w b bg (keep meets ts) t m
 skip-compose w b meets k bg ts t m d r a =
     skip w b meets k (order k ts) (λ u n. a u (order-from k ts n)) (start w b bg t m) (start-room w b bg t m r) (start-bytes w b bg t m r)

@@ -8,10 +8,11 @@ use native.Mathlib.Omega.{arith}
 use mathlib.Core.List.{List, [], _∷_, reverse, reverse-cons, List·Memᴰ, List·Memᴰ·head, List·Memᴰ·tail, List·Memᴰ·not-nil, List·Memᴰ·cases-cons}
 use lib.ListN.{length, getD, take, drop}
 use lib.Seq.{take-suc, drop-cons}
-use Rattle.plane.specs.Tiles.{Tile, Window, Ranked}
+use Rattle.plane.specs.Tiles.{Tile, Ranked}
 use Rattle.plane.specs.Turns.{Painting, Kind, plain, quick, turn, run, start, bottomFirst, compose, noTile}
 use Rattle.plane.proofs.RunLaws.{run-append}
 use Rattle.plane.proofs.OrderLaws.{Rising, sort-rising, sort-from, sort-to}
+use Rattle.plane.specs.declared.Rect.{Rect}
 
 -- ---- sorted lists
 
@@ -55,7 +56,7 @@ sorted ts l d r from to = rising-unique l (bottomFirst ts) r (sort-rising ts d) 
 
 -- ---- runs along them
 
-module _ (w : Window) (b : ℕ) (bg : List ℕ) (ts l : List Tile) (d : Ranked ts) (r : Rising l)
+module _ (w : Rect) (b : ℕ) (bg : List ℕ) (ts l : List Tile) (d : Ranked ts) (r : Rising l)
     (from : (t : Tile) → List·Memᴰ t l → List·Memᴰ t ts) (to : (t : Tile) → List·Memᴰ t ts → List·Memᴰ t l) (t m : List ℕ) where
   pub sorted-plain : run plain w b l (start w b bg t m) ≡ compose plain w b bg ts t m
   sorted-plain = ap (λ (z : List Tile). run plain w b z (start w b bg t m)) (sorted ts l d r from to)
@@ -63,7 +64,7 @@ module _ (w : Window) (b : ℕ) (bg : List ℕ) (ts l : List Tile) (d : Ranked t
   pub sorted-quick : run quick w b (reverse l) (start w b bg t m) ≡ compose quick w b bg ts t m
   sorted-quick = ap (λ (z : List Tile). run quick w b (reverse z) (start w b bg t m)) (sorted ts l d r from to)
 
-module _ (k : Kind) (w : Window) (b : ℕ) (l : List Tile) (s : Painting) (i : ℕ) (h : i < length l) where
+module _ (k : Kind) (w : Rect) (b : ℕ) (l : List Tile) (s : Painting) (i : ℕ) (h : i < length l) where
   -- one turn more, up the list
   pub run-up : run k w b (take (i + 1) l) s ≡ turn k w b (getD l i noTile) (run k w b (take i l) s)
   unfolding run

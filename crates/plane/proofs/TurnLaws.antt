@@ -10,7 +10,7 @@ use lib.ListN.{length, take}
 use lib.Seq.{take-suc, take-length}
 use borrow.Author.Tests.{lt-ltb}
 use Rattle.plane.specs.Sums.{one, sum, count}
-use Rattle.plane.specs.Tiles.{Tile, Window, area}
+use Rattle.plane.specs.Tiles.{Tile, area}
 use Rattle.plane.specs.Paint.{bit, ones}
 use Rattle.plane.specs.Turns.{Painting, Kind, quick, turn, run, start, order, compose, noTile, turnTile, before, gave, added}
 use Rattle.plane.specs.Demand2.{Room}
@@ -18,13 +18,14 @@ use Rattle.plane.proofs.SumLaws.{sum-ext, sum-zero}
 use Rattle.plane.proofs.RunLaws.{room-kept, run-kept, run-append, turn-bit, quick-one, quick-adds}
 use Rattle.plane.proofs.OrderLaws.{order-length}
 use Rattle.plane.proofs.PlaneLaws.{start-room, start-bit}
+use Rattle.plane.specs.declared.Rect.{Rect}
 
 -- one turn more: some turn gave it when this one does, or one before did
 since-more : (g : Bool) (n : ℕ) → (g || ltb 0 n) ≡ ltb 0 (n + one g)
 since-more true n = sym (lt-ltb 0 (n + 1) (omega arith))
 since-more false n = ap (λ (x : ℕ). ltb 0 x) (sym (add-zero n))
 
-module _ (k : Kind) (w : Window) (b : ℕ) (bg : List ℕ) (ts : List Tile) (t m : List ℕ) where
+module _ (k : Kind) (w : Rect) (b : ℕ) (bg : List ℕ) (ts : List Tile) (t m : List ℕ) where
   -- ---- one after the other
 
   pub before-first : before k w b bg ts t m 0 ≡ start w b bg t m
@@ -66,7 +67,7 @@ module _ (k : Kind) (w : Window) (b : ℕ) (bg : List ℕ) (ts : List Tile) (t m
       ∙ ap (λ (x : Bool). gave k w b bg ts t m i p || x) (covered-since r p hp i (omega arith))
       ∙ since-more (gave k w b bg ts t m i p) _
 
-module _ (w : Window) (b : ℕ) (bg : List ℕ) (ts : List Tile) (t m : List ℕ) (r : Room w b t m) where
+module _ (w : Rect) (b : ℕ) (bg : List ℕ) (ts : List Tile) (t m : List ℕ) (r : Room w b t m) where
   -- the quick composer's map bit counts the turns that gave the pixel
   pub quick-times : (p : ℕ) → p < area w → (i : ℕ) → i ≤ length ts
       → count i (λ j. gave quick w b bg ts t m j p) ≡ one (bit (before quick w b bg ts t m i .map) p)

@@ -4,8 +4,9 @@ use mathlib.Core.Path.{_≡_}
 use mathlib.Core.List.{List, List·Memᴰ}
 use mathlib.Core.Bool.{true, false}
 use lib.ListN.{length, getD}
-use Rattle.plane.specs.Tiles.{Tile, Window, area}
+use Rattle.plane.specs.Tiles.{Tile, area}
 use Rattle.plane.specs.Paint.{bit}
+use Rattle.plane.specs.declared.Rect.{Rect}
 
 -- t is the topmost of the tiles ts that give the plane pixel (u, v)
 pub record Top (ts : List Tile) (u v : ℕ) (t : Tile) : Type 0 where
@@ -18,7 +19,7 @@ abbrev pub None : List Tile → ℕ → ℕ → Type 0
 None ts u v = (s : Tile) → List·Memᴰ s ts → s .gives u v ≡ false
 
 -- the window has a pixel, a pixel has a byte, and the lent target t and map m are not too short (refusal 22)
-pub record Room (w : Window) (b : ℕ) (t m : List ℕ) : Type 0 where
+pub record Room (w : Rect) (b : ℕ) (t m : List ℕ) : Type 0 where
   pub wide : 1 ≤ w .width
   pub high : 1 ≤ w .height
   pub bytes : 1 ≤ b
@@ -26,7 +27,7 @@ pub record Room (w : Window) (b : ℕ) (t m : List ℕ) : Type 0 where
   pub map : area w ≤ 8 * length m
 
 -- what target t and map m hold after composing the tiles ts, where t₀ and m₀ were lent
-pub record Plane (w : Window) (b : ℕ) (bg : List ℕ) (ts : List Tile) (t₀ m₀ t m : List ℕ) : Type 0 where
+pub record Plane (w : Rect) (b : ℕ) (bg : List ℕ) (ts : List Tile) (t₀ m₀ t m : List ℕ) : Type 0 where
   pub target-length : length t ≡ length t₀
   pub map-length : length m ≡ length m₀
   -- a pixel that a tile gives: the bytes of the topmost such tile, and its map bit is one

@@ -3,8 +3,10 @@
 use Prim.Native.Nat.{ℕ, _+_, _*_, _/_, _%_}
 use mathlib.Core.Path.{_≡_}
 use mathlib.Core.List.{List, [], _∷_, List·Memᴰ}
-use mathlib.Core.Bool.{Bool, false, _||_}
+use mathlib.Core.Bool.{Bool, false, _&&_, _||_}
+use lib.Dec.{leb, ltb}
 use Rattle.plane.specs.Sums.{one, sum}
+use Rattle.plane.specs.declared.Rect.{Rect}
 
 -- ---- tiles
 
@@ -25,33 +27,31 @@ unfoldable pub covered : List Tile → ℕ → ℕ → Bool
 covered [] u v = false
 covered (t ∷ ts) u v = t .gives u v || covered ts u v
 
--- ---- the window: left and top, width and height
+-- ---- a rectangle of the plane: the window, or where a tile lies
 
-pub record Window : Type 0 where
-  pub left : ℕ
-  pub top : ℕ
-  pub width : ℕ
-  pub height : ℕ
+-- a rectangle covers the plane pixel (u, v) when column and row are at least 0 and under width and height
+unfoldable pub covers : Rect → ℕ → ℕ → Bool
+covers a u v = (leb (a .left) u && ltb u (a .left + a .width)) && (leb (a .top) v && ltb v (a .top + a .height))
 
 -- how many pixels it has; they are numbered row by row: (x, y) of the window is number y * width + x
-abbrev pub area : Window → ℕ
+abbrev pub area : Rect → ℕ
 area w = w .height * w .width
 
 -- the plane coordinates of pixel number p
-abbrev pub colOf : Window → ℕ → ℕ
+abbrev pub colOf : Rect → ℕ → ℕ
 colOf w p = w .left + p % w .width
 
-abbrev pub rowOf : Window → ℕ → ℕ
+abbrev pub rowOf : Rect → ℕ → ℕ
 rowOf w p = w .top + p / w .width
 
 -- pixel number p is one of the tile's unmasked window pixels
-abbrev pub givesAt : Window → Tile → ℕ → Bool
+abbrev pub givesAt : Rect → Tile → ℕ → Bool
 givesAt w t p = t .gives (colOf w p) (rowOf w p)
 
 -- ---- counts
 
 -- how many pixels of the window pass a test of plane pixels
-unfoldable pub within : Window → (ℕ → ℕ → Bool) → ℕ
+unfoldable pub within : Rect → (ℕ → ℕ → Bool) → ℕ
 within w f = sum (w .height) (λ y. sum (w .width) (λ x. one (f (w .left + x) (w .top + y))))
 
 -- the sum over the tiles

@@ -11,7 +11,7 @@ use Rattle.format.specs.Directory.{tileCount, entryPlace}
 use Rattle.format.specs.declared.Verdict.the-variants.{Accepted}
 use Rattle.format.proofs.Below.{and-both}
 use Rattle.format.proofs.Firsts.{passed, rows-each, rows-all}
-use Rattle.plane.specs.Tiles.{Window}
+use Rattle.plane.specs.declared.Rect.{Rect}
 use Rattle.plane.specs.Cuts.{Meets}
 use Rattle.tiles.specs.FileTile.{rectangle, meets}
 use Rattle.question.specs.Question.{requestWindow, typeBad, agreeRows}
@@ -38,7 +38,7 @@ module _ (bs : List ℕ) (chosen : ℕ → Bool) (f : WindowRequest) where
 
 -- ---- the test is the fact
 
-pub meets-true : (a w : Window) → meets a w ≡ true → Meets a w
+pub meets-true : (a w : Rect) → meets a w ≡ true → Meets a w
 unfolding meets
 meets-true a w e =
     let both = and-both _ _ e in
@@ -51,7 +51,7 @@ meets-true a w e =
       bottom = ltb-true _ _ (down .1);
     }
 
-pub meets-is : (a w : Window) → Meets a w → meets a w ≡ true
+pub meets-is : (a w : Rect) → Meets a w → meets a w ≡ true
 unfolding meets
 meets-is a w m = rw (lt-ltb _ _ (m .left), lt-ltb _ _ (m .right), lt-ltb _ _ (m .top), lt-ltb _ _ (m .bottom))
 
@@ -61,7 +61,7 @@ passes : (m n x : Bool) → (m ≡ true → n ≡ true) → cond n x false ≡ f
 passes false n x less h = refl
 passes true n x less h = rw (less refl) at h
 
-pub type-less : (bs : List ℕ) (w v : Window) (t e : ℕ) → ((a : Window) → Meets a v → Meets a w) → (c : Bool)
+pub type-less : (bs : List ℕ) (w v : Rect) (t e : ℕ) → ((a : Rect) → Meets a v → Meets a w) → (c : Bool)
     → cond c (typeBad bs w t e) false ≡ false → cond c (typeBad bs v t e) false ≡ false
 unfolding typeBad
 type-less bs w v t e less false h = refl

@@ -10,8 +10,9 @@ use borrow.Author.Tests.{eqb-true, eqb-false, ltb-false, ne-eqb, le-ltb, not-fal
 use Rattle.format.specs.Bytes.{anyOf}
 use Rattle.format.specs.Entry.{pixelBytes}
 use Rattle.format.proofs.Below.{none}
-use Rattle.plane.specs.Tiles.{Window, area}
+use Rattle.plane.specs.Tiles.{area}
 use Rattle.plane.specs.Cuts.{Proper}
+use Rattle.plane.specs.declared.Rect.{Rect}
 use Rattle.question.specs.Question.{windowBad, pixelBad, lentBad}
 
 positive : (n : ℕ) → eqb n 0 ≡ false → 1 ≤ n
@@ -19,7 +20,7 @@ positive n e = let h = eqb-false n 0 e in omega arith
 
 -- ---- refusal 20
 
-pub window-ok : (w : Window) → windowBad w ≡ false → Proper w
+pub window-ok : (w : Rect) → windowBad w ≡ false → Proper w
 unfolding windowBad
 window-ok w e =
     let g = none _ e in
@@ -31,7 +32,7 @@ window-ok w e =
     let bottom = g 5 in
     omega (arith, ltb-false)
 
-pub window-accepted : (w : Window) → Proper w → windowBad w ≡ false
+pub window-accepted : (w : Rect) → Proper w → windowBad w ≡ false
 unfolding windowBad anyOf
 window-accepted w p =
     rw (
@@ -51,7 +52,7 @@ pixel-ok t background e = let g = none _ e in (positive (pixelBytes t) (g 0), eq
 
 -- ---- refusal 22
 
-module _ (w : Window) (t target map : ℕ) where
+module _ (w : Rect) (t target map : ℕ) where
   pub lent-ok : lentBad w t target map ≡ false → (area w * pixelBytes t ≤ target) × (area w ≤ 8 * map)
   unfolding lentBad
   lent-ok e =

@@ -13,8 +13,9 @@ use Rattle.format.specs.Rules.{checks}
 use Rattle.format.specs.declared.Verdict.{Verdict}
 use Rattle.format.specs.declared.Verdict.the-variants as Is
 use Rattle.plane.specs.Paint.{ones}
-use Rattle.plane.specs.Tiles.{Tile, Window, area}
+use Rattle.plane.specs.Tiles.{Tile, area}
 use Rattle.plane.specs.Turns.{Painting, Kind, compose}
+use Rattle.plane.specs.declared.Rect.{Rect}
 use Rattle.selection.specs.Select.{selects}
 use Rattle.tiles.specs.FileTile.{tilesBelow}
 use Rattle.question.specs.Question.{masksOn, requestWindow, askRows, agreeRows}
@@ -39,7 +40,7 @@ unfoldable pub callVerdict : Asked → ℕ → ℕ → Verdict
 callVerdict a target map = first (checks (a .scan) ++ (askRows (a .request) (a .background) target map ++ agreeRows (a .scan .file) (chosen a) (a .request)))
 
 -- the window, bytes a pixel, and the selected tiles
-abbrev pub askedWindow : Asked → Window
+abbrev pub askedWindow : Asked → Rect
 askedWindow a = requestWindow (a .request)
 
 abbrev pub askedBytes : Asked → ℕ

@@ -8,7 +8,7 @@ use Rattle.format.specs.Bytes.{anyOf, shifted}
 use Rattle.format.specs.Entry.{pixelType, pixelBytes}
 use Rattle.format.specs.Checks.{Check, row, rowsBelow}
 use Rattle.format.specs.Directory.{tileCount, entryPlace}
-use Rattle.plane.specs.Tiles.{Window}
+use Rattle.plane.specs.declared.Rect.{Rect}
 use Rattle.tiles.specs.FileTile.{rectangle, meets}
 use Rattle.question.specs.declared.Masks.{Masks}
 use Rattle.question.specs.declared.Masks.the-variants.{NotChosen, On, Off}
@@ -21,13 +21,13 @@ masksOn On = true
 masksOn Off = false
 
 -- the window in plane coordinates
-abbrev pub requestWindow : WindowRequest → Window
+abbrev pub requestWindow : WindowRequest → Rect
 requestWindow f = record { left = shifted (f .left); top = shifted (f .top); width = f .width; height = f .height }
 
 -- ---- ask
 
 -- refusal 20: a side not 1 to 65,536, or right or bottom edge above 2,147,483,647
-unfoldable pub windowBad : Window → Bool
+unfoldable pub windowBad : Rect → Bool
 windowBad w =
     anyOf
     (eqb (w .width) 0 ∷
@@ -43,7 +43,7 @@ unfoldable pub pixelBad : ℕ → List ℕ → Bool
 pixelBad t background = anyOf (eqb (pixelBytes t) 0 ∷ not (eqb (length background) (pixelBytes t)) ∷ [])
 
 -- refusal 22: target or map too short, of these lengths
-unfoldable pub lentBad : Window → ℕ → ℕ → ℕ → Bool
+unfoldable pub lentBad : Rect → ℕ → ℕ → ℕ → Bool
 lentBad w t target map =
     anyOf
     (ltb target (w .height * w .width * pixelBytes t) ∷
@@ -60,7 +60,7 @@ askRows f background target map =
 -- ---- agree
 
 -- refusal 23 at entry k: chosen, meets the window, and has another type
-unfoldable pub typeBad : List ℕ → Window → ℕ → ℕ → Bool
+unfoldable pub typeBad : List ℕ → Rect → ℕ → ℕ → Bool
 typeBad bs w t e = cond (meets (rectangle bs e) w) (not (eqb (pixelType bs e) t)) false
 
 unfoldable pub agreeRows : List ℕ → (ℕ → Bool) → WindowRequest → List Check

@@ -21,15 +21,15 @@ use Rattle.masks.proofs.MaskLaws.{mask-fits}
 use Rattle.masks.proofs.ChunkLaws.{MaskIn, mask-ok}
 use Rattle.subblocks.specs.Judged.{Filled, Judged}
 use Rattle.subblocks.proofs.PartLaws.{filled-in, container-chunks}
-use Rattle.plane.specs.Tiles.{Tile}
+use Rattle.plane.specs.Tiles.{Tile, covers}
 use Rattle.plane.specs.Paint.{bitIn}
 use Rattle.plane.specs.Turns.{turn}
-use Rattle.turns.specs.TileOf.{windowOf, validIn, rectCovers, tileOf as turnsTile}
+use Rattle.plane.specs.declared.Rect.{Rect}
+use Rattle.turns.specs.TileOf.{validIn, tileOf as turnsTile}
 use Rattle.turns.specs.Turned.{kindOf, TurnRoom, Turned}
-use Rattle.turns.specs.declared.Rect.{Rect}
 use Rattle.turns.specs.declared.Mask.{Mask}
-use Rattle.tiles.specs.FileTile.{rankOf, rectangle, covers, unmasked, entryTile}
-use Rattle.tiles.specs.Painted.{PaintRoom, Painted, LinesRoom, rectOf, TurnedBehind}
+use Rattle.tiles.specs.FileTile.{rankOf, rectangle, unmasked, entryTile}
+use Rattle.tiles.specs.Painted.{PaintRoom, Painted, LinesRoom, TurnedBehind}
 use Rattle.tiles.proofs.Rectangles.{rectangle-edges}
 
 -- ---- equal tiles
@@ -47,8 +47,8 @@ open-tile bs k e q h i = record {
 -- the mask m of these lines says of each pixel what the tile's own says
 same-tile : (bs : List ℕ) (on : Bool) (k e q : ℕ) (m : Mask) (lines : List ℕ)
     → ((x y : ℕ) → validIn m lines x y ≡ (not on || unmasked bs (maskOf bs e bs q) x y))
-    → turnsTile (rankOf bs k e) (rectOf (rectangle bs e)) (pixelBytes (pixelType bs e)) (drop (pixelsPlace bs e bs q) bs) m lines ≡ entryTile bs on k e bs q
-unfolding entryTile turnsTile covers rectCovers
+    → turnsTile (rankOf bs k e) (rectangle bs e) (pixelBytes (pixelType bs e)) (drop (pixelsPlace bs e bs q) bs) m lines ≡ entryTile bs on k e bs q
+unfolding entryTile turnsTile covers
 same-tile bs on k e q m lines h i = record {
   rank = rankOf bs k e;
   gives = λ u v. covers (rectangle bs e) u v && h (u - rectangle bs e .left) (v - rectangle bs e .top) i;
@@ -90,7 +90,7 @@ module _ (t m bs : List ℕ) (e : ℕ) (w : Rect) (q : Bool) (t′ m′ : List �
   behind on k lines h d = record {
     painted = λ n stored.
         d .turned (rankOf bs n e) stored
-        ∙ ap (λ (z : Tile). turn (kindOf q) (windowOf w) (pixelBytes (pixelType bs e)) z (record { target = t; map = m; stored = stored })) (same-tile bs on n e (filePosition bs e) k lines h);
+        ∙ ap (λ (z : Tile). turn (kindOf q) w (pixelBytes (pixelType bs e)) z (record { target = t; map = m; stored = stored })) (same-tile bs on n e (filePosition bs e) k lines h);
   }
 
   -- masks are on or off as a test showed
@@ -107,7 +107,7 @@ module _ (t m bs : List ℕ) (e : ℕ) (w : Rect) (q : Bool) (t′ m′ : List �
   painted-unmasked h d = record {
     painted = λ n stored.
         d .painted n stored
-        ∙ ap (λ (z : Tile). turn (kindOf q) (windowOf w) (pixelBytes (pixelType bs e)) z (record { target = t; map = m; stored = stored })) (open-tile bs n e (filePosition bs e) h);
+        ∙ ap (λ (z : Tile). turn (kindOf q) w (pixelBytes (pixelType bs e)) z (record { target = t; map = m; stored = stored })) (open-tile bs n e (filePosition bs e) h);
   }
 
   -- with the mask of the chunk at c, whose lines begin at n
@@ -170,7 +170,7 @@ pixels-room bs e q f h =
     rw (← p .x, ← p .y, mul-comm (stored bs (letterPlace bs e 89)) (stored bs (letterPlace bs e 88)), ← l .size) (l .pixels)
 
 pub turn-room : (t m bs : List ℕ) (e : ℕ) (w : Rect) (k : Mask) (lines : List ℕ) → PaintRoom t m bs e w → LinesRoom k lines
-    → TurnRoom t m w (rectOf (rectangle bs e)) (drop (pixelsPlace bs e bs (filePosition bs e)) bs) (pixelBytes (pixelType bs e)) k lines
+    → TurnRoom t m w (rectangle bs e) (drop (pixelsPlace bs e bs (filePosition bs e)) bs) (pixelBytes (pixelType bs e)) k lines
 turn-room t m bs e w k lines p l =
     let f = rectangle-edges bs e (p .judged .filled .agreed .placed .listed) in
     let s = pixels-room bs e (filePosition bs e) (p .judged .filled) (p .whole) in
@@ -188,13 +188,13 @@ turn-room t m bs e w k lines p l =
 -- ---- what is lent on, with what was read of the entry
 
 module _ (t m bs : List ℕ) (e : ℕ) (w : Rect) (k : Mask) (lines : List ℕ) (a : Rect) (b from : ℕ)
-    (ha : windowOf a ≡ rectangle bs e) (hb : b ≡ pixelBytes (pixelType bs e)) (hf : from ≡ pixelsPlace bs e bs (filePosition bs e)) where
+    (ha : a ≡ rectangle bs e) (hb : b ≡ pixelBytes (pixelType bs e)) (hf : from ≡ pixelsPlace bs e bs (filePosition bs e)) where
   pub lent-room : PaintRoom t m bs e w → LinesRoom k lines → TurnRoom t m w a (take (length bs - from) (drop from bs)) b k lines
-  lent-room p l = let r : a ≡ rectOf (rectangle bs e) = ap rectOf ha in rw (rest from bs, r, hb, hf) (turn-room t m bs e w k lines p l)
+  lent-room p l = rw (rest from bs, ha, hb, hf) (turn-room t m bs e w k lines p l)
 
   pub lent-turned : (q : Bool) (t′ m′ : List ℕ) (r : ℕ) → Turned t m w a (take (length bs - from) (drop from bs)) b k lines q t′ m′ r
       → TurnedBehind t m bs e w k lines q t′ m′ r
-  lent-turned q t′ m′ n d = let r : a ≡ rectOf (rectangle bs e) = ap rectOf ha in rw (rest from bs, r, hb, hf) at d
+  lent-turned q t′ m′ n d = rw (rest from bs, ha, hb, hf) at d
 
 -- the file from n on, at most the first of the mask's lines
 pub lines-room : (bs : List ℕ) (c : ℕ) (shape : MaskShape) → Lined bs c shape → (n : ℕ) → n ≤ c + 36 → LinesRoom (maskWith shape) (take (length bs - n) (drop n bs))

@@ -13,9 +13,10 @@ use Rattle.format.specs.Entry.{letterPlace}
 use Rattle.format.proofs.Below.{and-both}
 use Rattle.entries.proofs.EntryLaws.{dimensions-ok}
 use Rattle.subblocks.specs.Judged.{Listed}
-use Rattle.plane.specs.Tiles.{Window, area, colOf, rowOf, givesAt}
+use Rattle.plane.specs.Tiles.{area, colOf, rowOf, givesAt, covers}
 use Rattle.plane.proofs.Tests.{by-bool}
-use Rattle.tiles.specs.FileTile.{rectangle, covers, meets, entryTile}
+use Rattle.plane.specs.declared.Rect.{Rect}
+use Rattle.tiles.specs.FileTile.{rectangle, meets, entryTile}
 
 pub biased-fits : (x : ℕ) → biased x < 2 ^ 32
 unfolding biased
@@ -31,7 +32,7 @@ y-in bs e l = omega (arith, l .entry, dimensions-ok bs e (l .dimensions) .y .wit
 
 -- ---- bounds
 
-pub record Edges (a : Window) : Type 0 where
+pub record Edges (a : Rect) : Type 0 where
   pub right : a .left + a .width < 2 ^ 32
   pub bottom : a .top + a .height < 2 ^ 32
   pub wide : 1 ≤ a .width
@@ -44,12 +45,12 @@ rectangle-edges bs e l =
     record { right = p .x-sized .end; bottom = p .y-sized .end; wide = p .x-sized .size-some; high = p .y-sized .size-some }
 
 -- of the rectangle that was read
-pub read-edges : (bs : List ℕ) (e : ℕ) (a : Window) → Listed bs e → a ≡ rectangle bs e → Edges a
+pub read-edges : (bs : List ℕ) (e : ℕ) (a : Rect) → Listed bs e → a ≡ rectangle bs e → Edges a
 read-edges bs e a l h = rw h (rectangle-edges bs e l)
 
 -- ---- two rectangles that meet, and two that do not
 
-module _ (a w : Window) where
+module _ (a w : Rect) where
   pub left-of : a .left + a .width ≤ w .left → false ≡ meets a w
   unfolding meets
   left-of h = rw (le-ltb (w .left) (a .left + a .width) h)
@@ -74,7 +75,7 @@ module _ (a w : Window) where
 -- ---- off the window
 
 -- a rectangle that covers a pixel of the window meets it
-covers-meets : (a w : Window) (p : ℕ) → 1 ≤ w .width → p < area w → covers a (colOf w p) (rowOf w p) ≡ true → true ≡ meets a w
+covers-meets : (a w : Rect) (p : ℕ) → 1 ≤ w .width → p < area w → covers a (colOf w p) (rowOf w p) ≡ true → true ≡ meets a w
 unfolding covers
 covers-meets a w p h l e =
     let both = and-both (leb (a .left) (colOf w p) && ltb (colOf w p) (a .left + a .width)) _ e in
@@ -89,7 +90,7 @@ covers-meets a w p h l e =
     meeting a w (omega arith) (omega arith) (omega arith) (omega arith)
 
 -- a tile that does not meet the window gives none of its pixels
-pub gives-none : (bs : List ℕ) (on : Bool) (k e q : ℕ) (w : Window) → meets (rectangle bs e) w ≡ false → 1 ≤ w .width → (p : ℕ) → p < area w
+pub gives-none : (bs : List ℕ) (on : Bool) (k e q : ℕ) (w : Rect) → meets (rectangle bs e) w ≡ false → 1 ≤ w .width → (p : ℕ) → p < area w
     → givesAt w (entryTile bs on k e bs q) p ≡ false
 unfolding entryTile
 gives-none bs on k e q w m h p l =

@@ -4,7 +4,7 @@ use Prim.Native.Nat.{ℕ, zero, suc, _+_, _-_, _*_}
 use mathlib.Core.List.{List, [], _∷_}
 use mathlib.Core.Bool.{Bool, true, cond, not, _&&_, _||_}
 use lib.ListN.{getD}
-use lib.Dec.{leb, ltb}
+use lib.Dec.{ltb}
 use Rattle.format.specs.Bytes.{anyBelow, biased}
 use Rattle.format.specs.Scan.{Scan}
 use Rattle.format.specs.Entry.{pixelType, pixelBytes, dimensionCount, start, size, hasLetter, letterPlace}
@@ -13,7 +13,8 @@ use Rattle.format.specs.Masks.{maskValid}
 use Rattle.format.specs.Records.{maskOf, tileEntry, tileFile, tilePosition}
 use Rattle.format.specs.declared.TileMask.{TileMask}
 use Rattle.format.specs.declared.TileMask.the-variants.{Unmasked, Masked}
-use Rattle.plane.specs.Tiles.{Tile, Window}
+use Rattle.plane.specs.Tiles.{Tile, covers}
+use Rattle.plane.specs.declared.Rect.{Rect}
 
 -- greater M lies on top; tiles without M lie below all with M; at a tie the later directory entry is on top.
 -- Entry numbers are below 4,096.
@@ -24,7 +25,7 @@ rankOf bs k e =
     k
 
 -- the tile's rectangle: X Start, Y Start, X Size, Y Size
-unfoldable pub rectangle : List ℕ → ℕ → Window
+unfoldable pub rectangle : List ℕ → ℕ → Rect
 rectangle bs e = record {
   left = biased (start bs (letterPlace bs e 88));
   top = biased (start bs (letterPlace bs e 89));
@@ -32,12 +33,8 @@ rectangle bs e = record {
   height = size bs (letterPlace bs e 89);
 }
 
--- a rectangle covers the plane pixel (u, v) when column and row are at least 0 and under X and Y Size
-unfoldable pub covers : Window → ℕ → ℕ → Bool
-covers a u v = (leb (a .left) u && ltb u (a .left + a .width)) && (leb (a .top) v && ltb v (a .top + a .height))
-
--- it meets the window: the two share a pixel
-unfoldable pub meets : Window → Window → Bool
+-- a rectangle meets the window: the two share a pixel
+unfoldable pub meets : Rect → Rect → Bool
 meets a w =
     (ltb (w .left) (a .left + a .width) && ltb (a .left) (w .left + w .width)) &&
     (ltb (w .top) (a .top + a .height) && ltb (a .top) (w .top + w .height))

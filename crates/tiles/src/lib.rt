@@ -1,8 +1,8 @@
 // The tile of a file's entry as a composer sees it: its rank, its rectangle, and one turn of it. The file is s, the entry stands at e of it.
 use format::MaskShape;
 use format::TileMask;
+use plane::Rect;
 use turns::Mask;
-use turns::Rect;
 ghost use mathlib.Core.Path.{_≡_};
 ghost use mathlib.Core.Bool.{true, false};
 ghost use Prim.Native.Nat.{_+_, _≤_, _<_, _^_};
@@ -13,7 +13,6 @@ ghost use Rattle.format.specs.SubBlock.{pixelsPlace};
 ghost use Rattle.format.specs.Records.{maskOf};
 ghost use Rattle.format.specs.declared.TileMask.the-variants.{Masked};
 ghost use Rattle.subblocks.specs.Judged.{Listed, Filled, Judged};
-ghost use Rattle.turns.specs.TileOf.{windowOf};
 ghost use Rattle.tiles.specs.FileTile.{rankOf, rectangle, meets};
 ghost use Rattle.tiles.specs.Painted.{PaintRoom, Painted, LinesRoom, TurnedBehind};
 
@@ -40,7 +39,7 @@ pub fn rank_of(s: &[u8], k: u64, e: u64) -> u64
 // The tile's rectangle.
 pub fn rectangle_of(s: &[u8], e: u64) -> Rect
     requires { ⌜ Listed (now s) e ⌝ }
-    ensures { λ r. ⌜ windowOf r ≡ rectangle (now (s .entry)) e ⌝ }
+    ensures { λ r. ⌜ r ≡ rectangle (now (s .entry)) e ⌝ }
 {
     let x = entries::letter_place(s, e, 88);
     let left = start_at(s, x) as usize;
@@ -59,7 +58,7 @@ pub fn rectangle_of(s: &[u8], e: u64) -> Rect
 // Whether the rectangle a and the window w share a pixel.
 pub fn meets_window(a: Rect, w: Rect) -> bool
     requires { ⌜ (a .left + a .width < 2 ^ 64) × (a .top + a .height < 2 ^ 64) × (w .left + w .width < 2 ^ 64) × (w .top + w .height < 2 ^ 64) ⌝ }
-    ensures { λ r. ⌜ r ≡ meets (windowOf a) (windowOf w) ⌝ }
+    ensures { λ r. ⌜ r ≡ meets a w ⌝ }
 {
     if a.left + a.width <= w.left {
         return false;

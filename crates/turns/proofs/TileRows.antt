@@ -18,10 +18,10 @@ use Rattle.plane.specs.Cuts.{Inside}
 use Rattle.plane.proofs.Tests.{by-bool}
 use Rattle.plane.proofs.PaintLaws.{Bytes, paint-length, mark-length}
 use Rattle.plane.proofs.SumLaws.{count-le}
+use Rattle.plane.specs.declared.Rect.{Rect}
 use Rattle.paint.specs.Row.{validAt, rowGives}
-use Rattle.turns.specs.TileOf.{windowOf, validIn, tileOf}
+use Rattle.turns.specs.TileOf.{validIn, tileOf}
 use Rattle.turns.specs.Turned.{kindOf, LineOf, StretchRoom, StretchPainted, TurnRoom, Turned, Clipped}
-use Rattle.turns.specs.declared.Rect.{Rect}
 use Rattle.turns.specs.declared.Mask.{Mask}
 use Rattle.turns.specs.declared.MaskLine.{MaskLine}
 use Rattle.turns.specs.declared.Clip.{Clip}
@@ -45,7 +45,7 @@ pub record Rows (t₀ m₀ : List ℕ) (w a : Rect) (src : List ℕ) (b : ℕ) (
   pub at-stop : w .top + stop ≡ min (w .top + w .height) (a .top + a .height)
   pub low : y ≤ stop
   pub high : max (w .top) (a .top) ≤ w .top + y
-  pub done : (rank : ℕ) → Done (kindOf q) (windowOf w) b (tileOf rank a b src k lines) t₀ m₀ (y * w .width) t m g
+  pub done : (rank : ℕ) → Done (kindOf q) w b (tileOf rank a b src k lines) t₀ m₀ (y * w .width) t m g
 
 -- the meeting, as a record
 abbrev clipOf : Rect → Rect → Clip
@@ -107,7 +107,7 @@ module _ {t₀ m₀ : List ℕ} {w a : Rect} {src : List ℕ} {b : ℕ} {k : Mas
         target = rw rows-target (o .room .room .target);
         map = rw rows-map (o .room .room .map);
         from = from;
-        given = rw (o .done 0 .given) (count-le (y * w .width) (turnGives (kindOf q) (windowOf w) (tileOf 0 a b src k lines) m₀));
+        given = rw (o .done 0 .given) (count-le (y * w .width) (turnGives (kindOf q) w (tileOf 0 a b src k lines) m₀));
         row-start = lt-of-le-of-lt (le-add-right _ col) (part (y * w .width) col fits (omega arith) all);
         first = part (y * w .width) col fits (omega arith) all;
         src-row = lt-of-le-of-lt (le-add-right _ x) (part ((y + w .top - a .top) * a .width) x src-end (omega arith) all-src);
@@ -180,12 +180,12 @@ module _ {t₀ m₀ : List ℕ} {w a : Rect} {src : List ℕ} {b : ℕ} {k : Mas
       -- a pixel between the ends of the row
       across : (rank p : ℕ) → y * w .width ≤ p → p < (y + 1) * w .width
           → (w .left + (p - y * w .width) < max (w .left) (a .left)) ⊎ (min (w .left + w .width) (a .left + a .width) ≤ w .left + (p - y * w .width))
-          → givesAt (windowOf w) (tileOf rank a b src k lines) p ≡ false
+          → givesAt w (tileOf rank a b src k lines) p ≡ false
       across rank p h h′ d =
-          subst (λ (z : ℕ). givesAt (windowOf w) (tileOf rank a b src k lines) z ≡ false) (add-sub-of-le h)
+          subst (λ (z : ℕ). givesAt w (tileOf rank a b src k lines) z ≡ false) (add-sub-of-le h)
           (off-row rank w a b src k lines (clipOf w a) (clipped w a) y (p - y * w .width) (omega arith) d)
 
-      inside : (i : ℕ) → i < n → Inside (windowOf a) (w .left + (col + i)) (w .top + y)
+      inside : (i : ℕ) → i < n → Inside a (w .left + (col + i)) (w .top + y)
       inside i h = record {
         left = omega arith;
         right = omega arith;
@@ -200,18 +200,18 @@ module _ {t₀ m₀ : List ℕ} {w a : Rect} {src : List ℕ} {b : ℕ} {k : Mas
       same-row = omega arith
 
       valid : (rank i : ℕ) → i < n
-          → validAt (k .on) (drop (e .start) lines) (e .width) (x + i) ≡ givesAt (windowOf w) (tileOf rank a b src k lines) (y * w .width + col + i)
+          → validAt (k .on) (drop (e .start) lines) (e .width) (x + i) ≡ givesAt w (tileOf rank a b src k lines) (y * w .width + col + i)
       valid rank i h =
           valid-line k lines (y + w .top - a .top) e f (x + i)
-          ∙ sym (ap (λ (z : ℕ). givesAt (windowOf w) (tileOf rank a b src k lines) z) (add-assoc (y * w .width) col i)
+          ∙ sym (ap (λ (z : ℕ). givesAt w (tileOf rank a b src k lines) z) (add-assoc (y * w .width) col i)
           ∙ here rank w a b src k lines y (col + i) (omega arith) (inside i h)
           ∙ ap₂ (λ (c r : ℕ). validIn k lines c r) (same-col i) same-row)
 
       source : (rank i j : ℕ) → i < n → j < b
           → getD src (((y + w .top - a .top) * a .width + x) * b + i * b + j) 0
-          ≡ tileOf rank a b src k lines .byte (colOf (windowOf w) (y * w .width + col + i)) (rowOf (windowOf w) (y * w .width + col + i)) j
+          ≡ tileOf rank a b src k lines .byte (colOf w (y * w .width + col + i)) (rowOf w (y * w .width + col + i)) j
       source rank i j h hj =
-          sym (ap (λ (z : ℕ). tileOf rank a b src k lines .byte (colOf (windowOf w) z) (rowOf (windowOf w) z) j) (add-assoc (y * w .width) col i)
+          sym (ap (λ (z : ℕ). tileOf rank a b src k lines .byte (colOf w z) (rowOf w z) j) (add-assoc (y * w .width) col i)
           ∙ byte-here rank w a b src k lines y (col + i) j (omega arith)
           ∙ ap (λ (z : ℕ). getD src z 0) (place (w .top + y - a .top) (w .left + (col + i) - a .left) (y + w .top - a .top) same-row (same-col i)))
         where
@@ -220,7 +220,7 @@ module _ {t₀ m₀ : List ℕ} {w a : Rect} {src : List ℕ} {b : ℕ} {k : Mas
               ap₂ (λ (y z : ℕ). (y * a .width + z) * b + j) e₁ e₂ ∙ ap (λ (z : ℕ). z * b + j) (sym (add-assoc (v * a .width) x i)) ∙ ap (λ (z : ℕ). z + j)
               (add-mul (v * a .width + x) i b)
 
-      step : (rank : ℕ) → Done (kindOf q) (windowOf w) b (tileOf rank a b src k lines) t₀ m₀ ((y + 1) * w .width) t′ m′ (g + r)
+      step : (rank : ℕ) → Done (kindOf q) w b (tileOf rank a b src k lines) t₀ m₀ ((y + 1) * w .width) t′ m′ (g + r)
       step rank =
           done-more hb (o .bytes)
           (done-stretch hb (o .bytes)
@@ -263,7 +263,7 @@ rows-none {w = w} {a} {src} {b} {k} {lines} {c = c} r h l l′ l″ e s s′ = r
 }
 
 turned : {t₀ m₀ : List ℕ} {w a : Rect} {src : List ℕ} {b : ℕ} {k : Mask} {lines : List ℕ} {q : Bool} {t m : List ℕ} {g : ℕ}
-    → ((rank : ℕ) → Done (kindOf q) (windowOf w) b (tileOf rank a b src k lines) t₀ m₀ (w .height * w .width) t m g)
+    → ((rank : ℕ) → Done (kindOf q) w b (tileOf rank a b src k lines) t₀ m₀ (w .height * w .width) t m g)
     → Turned t₀ m₀ w a src b k lines q t m g
 turned d = record { turned = λ rank stored. done-all stored (d rank) }
 

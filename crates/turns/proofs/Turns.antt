@@ -11,26 +11,27 @@ use lib.Dec.{ltb, leb}
 use lib.ListN.{length, getD, drop}
 use borrow.Author.Tests.{lt-ltb, le-ltb, le-leb, lt-leb}
 use Rattle.plane.specs.Sums.{one, sum, count}
-use Rattle.plane.specs.Tiles.{Tile, Window, area, colOf, rowOf, givesAt}
+use Rattle.plane.specs.Tiles.{Tile, area, colOf, rowOf, givesAt}
 use Rattle.plane.specs.Paint.{bit, paint, mark}
 use Rattle.plane.specs.Turns.{Painting, Kind, plain, quick, turnGives, turn}
 use Rattle.plane.proofs.SumLaws.{sum-ext, sum-add, sum-zero}
 use Rattle.plane.proofs.PaintLaws.{Bytes, paint-length, paint-pixel, paint-past, paint-eq, paint-none, mark-length, mark-bit, mark-bytes, mark-noop, same-map}
+use Rattle.plane.specs.declared.Rect.{Rect}
 use Rattle.paint.specs.Row.{validAt, givesPixel, rowGives}
 use Rattle.turns.specs.Turned.{StretchPainted, kindOf}
 
-pub record Done (k : Kind) (w : Window) (b : ℕ) (t : Tile) (t₀ m₀ : List ℕ) (n : ℕ) (t₁ m₁ : List ℕ) (g : ℕ) : Type 0 where
+pub record Done (k : Kind) (w : Rect) (b : ℕ) (t : Tile) (t₀ m₀ : List ℕ) (n : ℕ) (t₁ m₁ : List ℕ) (g : ℕ) : Type 0 where
   pub target : t₁ ≡ paint n b (turnGives k w t m₀) (λ p j. t .byte (colOf w p) (rowOf w p) j) t₀
   pub map : m₁ ≡ mark n (turnGives k w t m₀) m₀
   pub given : g ≡ count n (turnGives k w t m₀)
 
 -- a pixel that the tile does not give, no turn gives
-turn-off : (k : Kind) (w : Window) (t : Tile) (m : List ℕ) (p : ℕ) → givesAt w t p ≡ false → turnGives k w t m p ≡ false
+turn-off : (k : Kind) (w : Rect) (t : Tile) (m : List ℕ) (p : ℕ) → givesAt w t p ≡ false → turnGives k w t m p ≡ false
 turn-off plain w t m p e = e
 turn-off quick w t m p e = rw e
 
 -- the row painter's test is the turn's
-kind-gives : (q : Bool) (w : Window) (t : Tile) (m : List ℕ) (p : ℕ) → givesPixel q (givesAt w t p) (bit m p) ≡ turnGives (kindOf q) w t m p
+kind-gives : (q : Bool) (w : Rect) (t : Tile) (m : List ℕ) (p : ℕ) → givesPixel q (givesAt w t p) (bit m p) ≡ turnGives (kindOf q) w t m p
 kind-gives true w t m p = refl
 kind-gives false w t m p = go (givesAt w t p)
   where
@@ -39,7 +40,7 @@ kind-gives false w t m p = go (givesAt w t p)
     go false = refl
 
 -- the bit is set as well by all that the tile gives
-kind-or : (q : Bool) (w : Window) (t : Tile) (m : List ℕ) (p : ℕ) → (givesAt w t p || bit m p) ≡ (turnGives (kindOf q) w t m p || bit m p)
+kind-or : (q : Bool) (w : Rect) (t : Tile) (m : List ℕ) (p : ℕ) → (givesAt w t p || bit m p) ≡ (turnGives (kindOf q) w t m p || bit m p)
 kind-or false w t m p = refl
 kind-or true w t m p = go (givesAt w t p) (bit m p)
   where
@@ -49,7 +50,7 @@ kind-or true w t m p = go (givesAt w t p) (bit m p)
     go false true = refl
     go false false = refl
 
-module _ {k : Kind} {w : Window} {b : ℕ} {t : Tile} {t₀ m₀ : List ℕ} (hb : 1 ≤ b) (hm : Bytes m₀) where
+module _ {k : Kind} {w : Rect} {b : ℕ} {t : Tile} {t₀ m₀ : List ℕ} (hb : 1 ≤ b) (hm : Bytes m₀) where
   pub done-none : Done k w b t t₀ m₀ 0 t₀ m₀ 0
   unfolding sum
   done-none = record {
@@ -90,7 +91,7 @@ module _ {k : Kind} {w : Window} {b : ℕ} {t : Tile} {t₀ m₀ : List ℕ} (hb
           (sum-ext (n′ - n) _ (λ i. 0) (λ i h. ap one (turn-off k w t m₀ (n + i) (off (n + i) (omega arith) (omega arith)))) ∙ sum-zero (n′ - n))
           ∙ add-zero (count n on))
 
-module _ {q : Bool} {w : Window} {b : ℕ} {t : Tile} {t₀ m₀ : List ℕ} (hb : 1 ≤ b) (hm : Bytes m₀) where
+module _ {q : Bool} {w : Rect} {b : ℕ} {t : Tile} {t₀ m₀ : List ℕ} (hb : 1 ≤ b) (hm : Bytes m₀) where
   -- a stretch
   pub done-stretch : {first n : ℕ} {src : List ℕ} {from : ℕ} {masked : Bool} {lines : List ℕ} {line mw x : ℕ} {t₁ m₁ t₂ m₂ : List ℕ} {g r : ℕ}
       → Done (kindOf q) w b t t₀ m₀ first t₁ m₁ g
@@ -173,7 +174,7 @@ module _ {q : Bool} {w : Window} {b : ℕ} {t : Tile} {t₀ m₀ : List ℕ} (hb
           (λ i. rw (le-ltb p (first + n) (omega arith), le-ltb p first l)))
 
 -- all of it
-pub done-all : {k : Kind} {w : Window} {b : ℕ} {t : Tile} {t₀ m₀ : List ℕ} (stored : ℕ) {t₁ m₁ : List ℕ} {g : ℕ} → Done k w b t t₀ m₀ (area w) t₁ m₁ g
+pub done-all : {k : Kind} {w : Rect} {b : ℕ} {t : Tile} {t₀ m₀ : List ℕ} (stored : ℕ) {t₁ m₁ : List ℕ} {g : ℕ} → Done k w b t t₀ m₀ (area w) t₁ m₁ g
     → _≡_ {A = Painting} (record { target = t₁; map = m₁; stored = stored + g }) (turn k w b t (record { target = t₀; map = m₀; stored = stored }))
 unfolding turn
 done-all stored o i = record { target = o .target i; map = o .map i; stored = stored + o .given i }

@@ -2,19 +2,12 @@
 use Prim.Native.Nat.{ℕ, _+_, _*_, _-_, _/_, _%_}
 use mathlib.Core.List.{List}
 use mathlib.Core.Bool.{Bool, not, _&&_, _||_}
-use lib.Dec.{leb, ltb}
+use lib.Dec.{ltb}
 use lib.ListN.{getD}
-use Rattle.plane.specs.Tiles.{Tile, Window}
+use Rattle.plane.specs.Tiles.{Tile, covers}
 use Rattle.plane.specs.Paint.{bitIn}
-use Rattle.turns.specs.declared.Rect.{Rect}
+use Rattle.plane.specs.declared.Rect.{Rect}
 use Rattle.turns.specs.declared.Mask.{Mask}
-
-abbrev pub windowOf : Rect → Window
-windowOf a = record { left = a .left; top = a .top; width = a .width; height = a .height }
-
--- the tile's rectangle rectCovers the plane pixel (u, v): its column u - left and row v - top are at least 0 and under width and height
-unfoldable pub rectCovers : Rect → ℕ → ℕ → Bool
-rectCovers a u v = (leb (a .left) u && ltb u (a .left + a .width)) && (leb (a .top) v && ltb v (a .top + a .height))
 
 -- the pixel in the tile's column c and row r is unmasked: the mask is off, or it has that row and column and their bit is one
 unfoldable pub validIn : Mask → List ℕ → ℕ → ℕ → Bool
@@ -24,6 +17,6 @@ validIn k lines c r = not (k .on) || (ltb r (k .height) && (ltb c (k .width) && 
 unfoldable pub tileOf : ℕ → Rect → ℕ → List ℕ → Mask → List ℕ → Tile
 tileOf rank a b px k lines = record {
   rank = rank;
-  gives = λ u v. rectCovers a u v && validIn k lines (u - a .left) (v - a .top);
+  gives = λ u v. covers a u v && validIn k lines (u - a .left) (v - a .top);
   byte = λ u v j. getD px (((v - a .top) * a .width + (u - a .left)) * b + j) 0;
 }

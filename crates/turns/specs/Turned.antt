@@ -9,9 +9,9 @@ use Rattle.plane.specs.Sums.{count}
 use Rattle.plane.specs.Paint.{paint, mark}
 use Rattle.plane.specs.Turns.{Painting, Kind, plain, quick, turn}
 use Rattle.plane.specs.Demand2.{Room}
+use Rattle.plane.specs.declared.Rect.{Rect}
 use Rattle.paint.specs.Row.{validAt, rowGives}
-use Rattle.turns.specs.TileOf.{windowOf, tileOf}
-use Rattle.turns.specs.declared.Rect.{Rect}
+use Rattle.turns.specs.TileOf.{tileOf}
 use Rattle.turns.specs.declared.Mask.{Mask}
 use Rattle.turns.specs.declared.MaskLine.{MaskLine}
 use Rattle.turns.specs.declared.Clip.{Clip}
@@ -54,7 +54,7 @@ kindOf false = plain
 
 -- the window w has room in the target t and the map m, the tile's pixels and its mask's lines are all there, and edges fit 64 bits
 pub record TurnRoom (t m : List ℕ) (w a : Rect) (src : List ℕ) (b : ℕ) (k : Mask) (lines : List ℕ) : Type 0 where
-  pub room : Room (windowOf w) b t m
+  pub room : Room w b t m
   pub source : a .height * a .width * b ≤ length src
   pub stride : k .width ≤ 8 * k .stride
   pub mask : k .height * k .stride ≤ length lines
@@ -67,4 +67,4 @@ pub record TurnRoom (t m : List ℕ) (w a : Rect) (src : List ℕ) (b : ℕ) (k 
 pub record Turned (t m : List ℕ) (w a : Rect) (src : List ℕ) (b : ℕ) (k : Mask) (lines : List ℕ) (q : Bool) (t′ m′ : List ℕ) (r : ℕ) : Type 0 where
   pub turned : (rank stored : ℕ)
       → _≡_ {A = Painting} (record { target = t′; map = m′; stored = stored + r })
-      (turn (kindOf q) (windowOf w) b (tileOf rank a b src k lines) (record { target = t; map = m; stored = stored }))
+      (turn (kindOf q) w b (tileOf rank a b src k lines) (record { target = t; map = m; stored = stored }))

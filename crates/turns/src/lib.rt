@@ -1,15 +1,8 @@
 // A tile's turn: the rows of the tile that meet the window, each painted into its own stretch of the target.
+use plane::Rect;
 ghost use mathlib.Core.Path.{_≡_};
 ghost use Prim.Native.Nat.{_+_, _*_, _<_, min, max, _^_};
 ghost use Rattle.turns.specs.Turned.{Clipped, LineOf, StretchRoom, StretchPainted, TurnRoom, Turned};
-
-// A rectangle of the plane: a window, or a tile's. Coordinates are the signed ones plus 2^31.
-pub struct Rect {
-    pub left: usize,
-    pub top: usize,
-    pub width: usize,
-    pub height: usize,
-}
 
 // Whether a tile is masked, and its mask's columns, rows, and bytes a line.
 pub struct Mask {

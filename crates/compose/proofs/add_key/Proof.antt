@@ -3,14 +3,13 @@ use native.Mathlib.Omega.{arith}
 use mathlib.Core.Path.{_∙_}
 use borrow.Author.Tests.{eq-eqb, ne-eqb}
 use Rattle.format.proofs.Flags.{is-true-not, is-false-not}
-use Rattle.turns.specs.TileOf.{windowOf}
 use Rattle.tiles.proofs.Rectangles.{read-edges}
 use borrow.Author.Needs.{needs}
 use Rattle.compose.proofs.add_key.Statement.{statement}
 use Rattle.compose.proofs.add_key.Tie as tie
 
 meets-window-requires : tie.Need-meets-window-requires
-meets-window-requires c κs = let k = c .before .before .before in let g = read-edges _ _ (windowOf (c .rectangle-of .result)) (k .pre .listed (c .before .if1 .left)) (c .rectangle-of .ensures) in let w = k .pre .edges in (omega (arith, g .right), omega (arith, g .bottom), omega (arith, w .right), omega (arith, w .bottom))
+meets-window-requires c κs = let k = c .before .before .before in let g = read-edges _ _ ((c .rectangle-of .result)) (k .pre .listed (c .before .if1 .left)) (c .rectangle-of .ensures) in let w = k .pre .edges in (omega (arith, g .right), omega (arith, g .bottom), omega (arith, w .right), omega (arith, w .bottom))
 
 returns-2 : tie.Need-returns-2
 returns-2 c = record { size = c .before .before .before .before .before .pre .size; most = omega arith; keys-are = rw (ne-eqb _ _ (c .before .before .before .if1 .left), ← c .before .before .rectangle-of .ensures, is-false-not _ _ (c .before .meets-window .ensures) (c .if2 .taken)) }

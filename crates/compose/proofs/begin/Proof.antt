@@ -1,5 +1,4 @@
 -- `compose::begin` meets its contract.
-use Rattle.turns.specs.TileOf.{windowOf}
 use native.Mathlib.Omega.{arith}
 use mathlib.Core.Path.{sym, _∙_}
 use Rattle.format.specs.Entry.{pixelBytes}
@@ -18,7 +17,7 @@ fill-requires c κs =
 returns : tie.Need-returns
 returns c =
     let k = c .before .before .before .before .before .before .before .before .before .before .before .before .before in
-    started (windowOf (k .args .w)) (pixelBytes (k .args .t)) _ _ _ _ _ (rw (c .before .before .before .before .before .before .before .before .pixel-bytes .ensures) at (c .before .before .before .before .before .before .fill .ensures)) (c .before .before .clear .ensures)
+    started ((k .args .w)) (pixelBytes (k .args .t)) _ _ _ _ _ (rw (c .before .before .before .before .before .before .before .before .pixel-bytes .ensures) at (c .before .before .before .before .before .before .fill .ensures)) (c .before .before .clear .ensures)
 
 pub begin-spec : {M : Type 1} → statement M
 begin-spec =

@@ -1,7 +1,6 @@
 -- `compose::disagrees` meets its contract.
 use Rattle.format.specs.Entry.{pixelType}
 use Rattle.format.proofs.Flags.{is-true-not, is-false-not}
-use Rattle.turns.specs.TileOf.{windowOf}
 use Rattle.subblocks.proofs.PartLaws.{listed-in}
 use Rattle.tiles.proofs.Rectangles.{read-edges}
 use Rattle.question.specs.Question.{typeBad}
@@ -11,7 +10,7 @@ use Rattle.compose.proofs.disagrees.Statement.{statement}
 use Rattle.compose.proofs.disagrees.Tie as tie
 
 meets-window-requires : tie.Need-meets-window-requires
-meets-window-requires c κs = let g = read-edges _ _ (windowOf (c .rectangle-of .result)) (c .before .before .before .pre .0 (c .before .if1 .left)) (c .rectangle-of .ensures) in let w = c .before .before .before .pre .1 in (omega (arith, g .right), omega (arith, g .bottom), omega (arith, w .right), omega (arith, w .bottom))
+meets-window-requires c κs = let g = read-edges _ _ ((c .rectangle-of .result)) (c .before .before .before .pre .0 (c .before .if1 .left)) (c .rectangle-of .ensures) in let w = c .before .before .before .pre .1 in (omega (arith, g .right), omega (arith, g .bottom), omega (arith, w .right), omega (arith, w .bottom))
 
 returns-2 : tie.Need-returns-2
 unfolding typeBad

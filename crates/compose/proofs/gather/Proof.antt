@@ -2,7 +2,6 @@
 use Prim.Native.Nat.{_-_, _≤_}
 use mathlib.Core.Path.{_≡_}
 use native.Mathlib.Omega.{arith}
-use Rattle.turns.specs.TileOf.{windowOf}
 use Rattle.judge.proofs.AcceptedFile.{tiled}
 use Rattle.compose.specs.Steps.{Gathered}
 use Rattle.compose.proofs.Gathering.{gather-start, add-room, gather-next}
@@ -10,7 +9,7 @@ use Rattle.compose.proofs.gather.Statement.{statement}
 use Rattle.compose.proofs.gather.Tie as tie
 
 abbrev Inv-loop : tie.InvT-loop
-Inv-loop s table n w keys₀ count₀ k₀ keys count k = (k ≤ n) × Gathered k s table (windowOf w) keys count
+Inv-loop s table n w keys₀ count₀ k₀ keys count k = (k ≤ n) × Gathered k s table w keys count
 
 abbrev μ-loop : tie.MeasureT-loop
 μ-loop s table n w keys₀ count₀ k₀ keys count k = n - k
