@@ -103,7 +103,7 @@ fn metadata_place(d: &[u8], e: u64, s: &[u8], q: u64) -> u64
 }
 
 // Where the pixels begin.
-fn pixels_place(d: &[u8], e: u64, s: &[u8], q: u64) -> u64
+pub fn pixels_place(d: &[u8], e: u64, s: &[u8], q: u64) -> u64
     requires { ⌜ Filled (now d) e (now s) q ⌝ }
     ensures { λ r. ⌜ r ≡ pixelsPlace (now (d .entry)) e (now (s .entry)) q ⌝ }
 {

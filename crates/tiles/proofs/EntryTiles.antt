@@ -1,4 +1,5 @@
--- The tile of a file's entry is the tile that is painted: by its rectangle, the file's bytes from its pixels on, and its mask's lines. Assumes nothing.
+-- The tile of an entry is the tile that is painted: by its rectangle, the file's bytes from its pixels on, and its mask's lines.
+-- The entry stands at e of the file ds, its sub-block at q of the file bs. Assumes nothing.
 use mathlib.Core.Path.{_≡_, refl, sym, ap, _∙_}
 use Prim.Native.Nat.{ℕ, _+_, _*_, _-_, _/_, _≤_}
 use native.Mathlib.Nat.{mul-comm}
@@ -8,9 +9,9 @@ use mathlib.Core.Bool.{Bool, true, false, cond, not, _&&_, _||_}
 use lib.Dec.{ltb}
 use lib.ListN.{length, getD, take, drop, length-drop}
 use lib.Seq.{take-all, getD-drop}
-use borrow.Author.Tests.{eqb-true, not-false}
-use Rattle.format.specs.Entry.{pixelType, pixelBytes, filePosition, size, stored, letterPlace, isPyramid}
-use Rattle.format.specs.SubBlock.{metadataSize, attachmentSize, metadataPlace, pixelsPlace, attachmentPlace, pixelsSize}
+use borrow.Author.Tests.{eqb-true, not-true, not-false}
+use Rattle.format.specs.Entry.{pixelType, pixelBytes, size, stored, letterPlace, isPyramid}
+use Rattle.format.specs.SubBlock.{attachmentSize, pixelsPlace, attachmentPlace, pixelsSize}
 use Rattle.format.specs.Masks.{hasChunks, maskWidth, maskHeight, maskStride, maskShape, maskFrom, maskByte, maskValid}
 use Rattle.format.specs.Records.{maskOf}
 use Rattle.format.specs.declared.MaskShape.{MaskShape}
@@ -29,43 +30,47 @@ use Rattle.turns.specs.TileOf.{validIn, tileOf as turnsTile}
 use Rattle.turns.specs.Turned.{kindOf, TurnRoom, Turned}
 use Rattle.turns.specs.declared.Mask.{Mask}
 use Rattle.tiles.specs.FileTile.{rankOf, rectangle, unmasked, entryTile}
-use Rattle.tiles.specs.Painted.{PaintRoom, Painted, LinesRoom, TurnedBehind}
+use Rattle.tiles.specs.Painted.{TileRoom, PaintRoom, Painted, LinesRoom, TurnedBehind}
 use Rattle.tiles.proofs.Rectangles.{rectangle-edges}
 
 -- ---- equal tiles
 
--- masks on and off are the same where there is no mask
-open-tile : (bs : List ℕ) (k e q : ℕ) → maskOf bs e bs q ≡ Unmasked → entryTile bs false k e bs q ≡ entryTile bs true k e bs q
-unfolding entryTile
-open-tile bs k e q h i = record {
-  rank = rankOf bs k e;
-  gives = λ u v. covers (rectangle bs e) u v && unmasked bs (sym h i) (u - rectangle bs e .left) (v - rectangle bs e .top);
-  byte = λ u v j.
-      getD bs (pixelsPlace bs e bs q + (((v - rectangle bs e .top) * rectangle bs e .width + (u - rectangle bs e .left)) * pixelBytes (pixelType bs e) + j)) 0;
-}
+module _ (ds : List ℕ) (e : ℕ) (bs : List ℕ) (q k : ℕ) where
+  -- masks on and off are the same where there is no mask
+  open-tile : maskOf ds e bs q ≡ Unmasked → entryTile ds false k e bs q ≡ entryTile ds true k e bs q
+  unfolding entryTile
+  open-tile h i = record {
+    rank = rankOf ds k e;
+    gives = λ u v. covers (rectangle ds e) u v && unmasked bs (sym h i) (u - rectangle ds e .left) (v - rectangle ds e .top);
+    byte = λ u v j.
+        getD bs
+        (pixelsPlace ds e bs q
+        + (((v - rectangle ds e .top) * rectangle ds e .width + (u - rectangle ds e .left)) * pixelBytes (pixelType ds e) + j))
+        0;
+  }
 
--- the mask m of these lines says of each pixel what the tile's own says
-same-tile : (bs : List ℕ) (on : Bool) (k e q : ℕ) (m : Mask) (lines : List ℕ)
-    → ((x y : ℕ) → validIn m lines x y ≡ (not on || unmasked bs (maskOf bs e bs q) x y))
-    → turnsTile (rankOf bs k e) (rectangle bs e) (pixelBytes (pixelType bs e)) (drop (pixelsPlace bs e bs q) bs) m lines ≡ entryTile bs on k e bs q
-unfolding entryTile turnsTile covers
-same-tile bs on k e q m lines h i = record {
-  rank = rankOf bs k e;
-  gives = λ u v. covers (rectangle bs e) u v && h (u - rectangle bs e .left) (v - rectangle bs e .top) i;
-  byte = λ u v j.
-      getD-drop (pixelsPlace bs e bs q) bs (((v - rectangle bs e .top) * rectangle bs e .width + (u - rectangle bs e .left)) * pixelBytes (pixelType bs e) + j) 0 i;
-}
+  -- the mask m of these lines says of each pixel what the tile's own says
+  same-tile : (on : Bool) (m : Mask) (lines : List ℕ) → ((x y : ℕ) → validIn m lines x y ≡ (not on || unmasked bs (maskOf ds e bs q) x y))
+      → turnsTile (rankOf ds k e) (rectangle ds e) (pixelBytes (pixelType ds e)) (drop (pixelsPlace ds e bs q) bs) m lines ≡ entryTile ds on k e bs q
+  unfolding entryTile turnsTile
+  same-tile on m lines h i = record {
+    rank = rankOf ds k e;
+    gives = λ u v. covers (rectangle ds e) u v && h (u - rectangle ds e .left) (v - rectangle ds e .top) i;
+    byte = λ u v j.
+        getD-drop (pixelsPlace ds e bs q) bs
+        (((v - rectangle ds e .top) * rectangle ds e .width + (u - rectangle ds e .left)) * pixelBytes (pixelType ds e) + j)
+        0 i;
+  }
 
 -- the mask of that shape
 abbrev pub maskWith : MaskShape → Mask
 maskWith shape = record { on = true; width = shape .width; height = shape .height; stride = shape .stride }
 
 -- the lines of the chunk at c
-valid-lines : (bs : List ℕ) (c : ℕ) (m : Mask) → m .on ≡ true → m .width ≡ maskWidth bs c → m .height ≡ maskHeight bs c → m .stride ≡ maskStride bs c → (x y : ℕ)
-    → validIn m (drop (c + 36) bs) x y ≡ maskValid bs c x y
-unfolding validIn maskValid maskByte bitIn
-valid-lines bs c m o w h s x y =
-    rw (o, w, h, s, getD-drop, place)
+valid-lines : (bs : List ℕ) (c x y : ℕ) → validIn (maskWith (maskShape bs c)) (drop (c + 36) bs) x y ≡ maskValid bs c x y
+unfolding validIn maskValid maskByte maskShape bitIn
+valid-lines bs c x y =
+    rw (getD-drop, place)
     (go (ltb x (maskWidth bs c)) (ltb y (maskHeight bs c)) _)
   where
     place : c + 36 + (y * maskStride bs c + x / 8) ≡ c + 20 + 16 + y * maskStride bs c + x / 8
@@ -80,45 +85,6 @@ valid-lines bs c m o w h s x y =
 -- the file from n on, as it is lent
 rest : (n : ℕ) (bs : List ℕ) → take (length bs - n) (drop n bs) ≡ drop n bs
 rest n bs = take-all (length bs - n) (drop n bs) (rw length-drop (omega arith))
-
--- ---- a turn with a mask given by its lines
-
-module _ (t m bs : List ℕ) (e : ℕ) (w : Rect) (q : Bool) (t′ m′ : List ℕ) (r : ℕ) where
-  -- what is painted of a tile is painted of an equal one
-  behind : (on : Bool) (k : Mask) (lines : List ℕ) → ((x y : ℕ) → validIn k lines x y ≡ (not on || unmasked bs (maskOf bs e bs (filePosition bs e)) x y))
-      → TurnedBehind t m bs e w k lines q t′ m′ r → Painted t m bs on e w q t′ m′ r
-  behind on k lines h d = record {
-    painted = λ n stored.
-        d .turned (rankOf bs n e) stored
-        ∙ ap (λ (z : Tile). turn (kindOf q) w (pixelBytes (pixelType bs e)) z (record { target = t; map = m; stored = stored })) (same-tile bs on n e (filePosition bs e) k lines h);
-  }
-
-  -- masks are on or off as a test showed
-  pub painted-as : (on on′ : Bool) → on ≡ on′ → Painted t m bs on′ e w q t′ m′ r → Painted t m bs on e w q t′ m′ r
-  painted-as on on′ h d = rw h d
-
-  -- with a mask that is off
-  pub painted-open : (k : Mask) (lines : List ℕ) → k .on ≡ false → TurnedBehind t m bs e w k lines q t′ m′ r → Painted t m bs false e w q t′ m′ r
-  unfolding validIn
-  painted-open k lines o d = behind false k lines (λ x y. rw o) d
-
-  -- masks are on and the tile has none
-  pub painted-unmasked : maskOf bs e bs (filePosition bs e) ≡ Unmasked → Painted t m bs false e w q t′ m′ r → Painted t m bs true e w q t′ m′ r
-  painted-unmasked h d = record {
-    painted = λ n stored.
-        d .painted n stored
-        ∙ ap (λ (z : Tile). turn (kindOf q) w (pixelBytes (pixelType bs e)) z (record { target = t; map = m; stored = stored })) (open-tile bs n e (filePosition bs e) h);
-  }
-
-  -- with the mask of the chunk at c, whose lines begin at n
-  pub painted-masked : (c : ℕ) (shape : MaskShape) → maskOf bs e bs (filePosition bs e) ≡ Masked c shape → shape ≡ maskShape bs c → (n : ℕ) → n ≡ c + 36
-      → TurnedBehind t m bs e w (maskWith shape) (take (length bs - n) (drop n bs)) q t′ m′ r → Painted t m bs true e w q t′ m′ r
-  unfolding maskShape
-  painted-masked c shape h s n p d =
-      behind true (maskWith shape) (take (length bs - n) (drop n bs))
-      (λ x y. ap (λ (l : List ℕ). validIn (maskWith shape) l x y) (rest n bs ∙ ap (λ (z : ℕ). drop z bs) p)
-      ∙ valid-lines bs c (maskWith shape) refl (ap (λ (z : MaskShape). z .width) s) (ap (λ (z : MaskShape). z .height) s) (ap (λ (z : MaskShape). z .stride) s) x y
-      ∙ ap (λ (z : TileMask). unmasked bs z x y) (sym h)) d
 
 -- ---- the mask of a judged sub-block lies in the file
 
@@ -139,66 +105,129 @@ mask-in bs end c shape h i =
       lines = rw (i .dimensions, mul-comm (maskHeight bs c) (maskStride bs c)) (omega (arith, f .lines, i .within));
     }
 
-pub mask-lined : (bs : List ℕ) (e q c : ℕ) (shape : MaskShape) → Judged bs e bs q → maskOf bs e bs q ≡ Masked c shape → Lined bs c shape
-unfolding maskOf
-mask-lined bs e q c shape j h = go (hasChunks bs e bs q) refl h
-  where
-    go : (b : Bool) → hasChunks bs e bs q ≡ b
-        → cond b (maskFrom (attachmentSize bs q) bs (attachmentPlace bs e bs q + attachmentSize bs q) (attachmentPlace bs e bs q)) Unmasked ≡ Masked c shape → Lined bs c shape
-    go true y h =
-        mask-in bs (attachmentPlace bs e bs q + attachmentSize bs q) c shape (filled-in bs e bs q (j .filled) .attachment)
-        (mask-ok (attachmentSize bs q) bs _ false (attachmentPlace bs e bs q) c shape (container-chunks bs e bs q y (j .attachment)) h)
-    go false y h = let z : _≡_ {A = ℕ} 0 1 = cc in absurd (omega arith)
+module _ {ds : List ℕ} {e : ℕ} {bs : List ℕ} {q : ℕ} where
+  pub mask-lined : {c : ℕ} {shape : MaskShape} → Judged ds e bs q → maskOf ds e bs q ≡ Masked c shape → Lined bs c shape
+  unfolding maskOf
+  mask-lined {c} {shape} j h = go (hasChunks ds e bs q) refl h
+    where
+      end : ℕ
+      end = attachmentPlace ds e bs q + attachmentSize bs q
+
+      go : (b : Bool) → hasChunks ds e bs q ≡ b → cond b (maskFrom (attachmentSize bs q) bs end (attachmentPlace ds e bs q)) Unmasked ≡ Masked c shape → Lined bs c shape
+      go true y h =
+          mask-in bs end c shape (filled-in ds e bs q (j .filled) .attachment)
+          (mask-ok (attachmentSize bs q) bs _ false (attachmentPlace ds e bs q) c shape (container-chunks ds e bs q y (j .attachment)) h)
+      go false y h = let z : _≡_ {A = ℕ} 0 1 = cc in absurd (omega arith)
+
+  -- its lines begin in the file
+  pub lines-in : {c : ℕ} {shape : MaskShape} → Judged ds e bs q → maskOf ds e bs q ≡ Masked c shape → c + 36 ≤ length bs
+  lines-in j h = omega (arith, mask-lined j h .lines)
+
+-- masks are on, as a test showed
+pub judged-on : {t m ds : List ℕ} {e : ℕ} {bs : List ℕ} {q : ℕ} {on : Bool} {w : Rect} → PaintRoom t m ds e bs q on w → not on ≡ false → Judged ds e bs q
+judged-on p h = p .judged (not-false _ h)
+
+-- ---- a turn with a mask given by its lines
+
+module _ {t m ds : List ℕ} {e : ℕ} {bs : List ℕ} {q : ℕ} {w : Rect} {quick : Bool} {t′ m′ : List ℕ} {r : ℕ} where
+  -- what is painted of a tile is painted of an equal one
+  painted-behind : (on : Bool) (k : Mask) (lines : List ℕ) → ((x y : ℕ) → validIn k lines x y ≡ (not on || unmasked bs (maskOf ds e bs q) x y))
+      → TurnedBehind t m ds e bs q w k lines quick t′ m′ r → Painted t m ds e bs q on w quick t′ m′ r
+  painted-behind on k lines h d = record {
+    painted = λ n stored.
+        d .behind .turned (rankOf ds n e) stored
+        ∙ ap (λ (z : Tile). turn (kindOf quick) w (pixelBytes (pixelType ds e)) z (record { target = t; map = m; stored = stored }))
+        (same-tile ds e bs q n on k lines h);
+  }
+
+  -- masks are off, or on, as a test showed
+  pub painted-off : {on : Bool} → not on ≡ true → Painted t m ds e bs q false w quick t′ m′ r → Painted t m ds e bs q on w quick t′ m′ r
+  painted-off {on} h d = rw (not-true on h) d
+
+  pub painted-on : {on : Bool} → not on ≡ false → Painted t m ds e bs q true w quick t′ m′ r → Painted t m ds e bs q on w quick t′ m′ r
+  painted-on {on} h d = rw (not-false on h) d
+
+  -- with a mask that is off
+  pub painted-open : (k : Mask) (lines : List ℕ) → k .on ≡ false → TurnedBehind t m ds e bs q w k lines quick t′ m′ r
+      → Painted t m ds e bs q false w quick t′ m′ r
+  unfolding validIn
+  painted-open k lines o d = painted-behind false k lines (λ x y. rw o) d
+
+  -- masks are on and the tile has none, as was read
+  pub painted-unmasked : {on : Bool} (k : TileMask) → k ≡ maskOf ds e bs q → k ≡ Unmasked → not on ≡ false
+      → Painted t m ds e bs q false w quick t′ m′ r → Painted t m ds e bs q on w quick t′ m′ r
+  painted-unmasked k h u o d =
+      painted-on o
+      (record {
+        painted = λ n stored.
+            d .painted n stored
+            ∙ ap (λ (z : Tile). turn (kindOf quick) w (pixelBytes (pixelType ds e)) z (record { target = t; map = m; stored = stored }))
+            (open-tile ds e bs q n (sym h ∙ u));
+      })
+
+  -- with the mask of the chunk at c, whose lines begin at n
+  pub painted-masked : {c : ℕ} {shape : MaskShape} (n : ℕ) → Judged ds e bs q → maskOf ds e bs q ≡ Masked c shape → n ≡ c + 36
+      → TurnedBehind t m ds e bs q w (maskWith shape) (take (length bs - n) (drop n bs)) quick t′ m′ r → Painted t m ds e bs q true w quick t′ m′ r
+  painted-masked {c} {shape} n j h p d =
+      let s = mask-lined j h .shape-is in
+      painted-behind true (maskWith shape) (take (length bs - n) (drop n bs))
+      (λ x y. rw (rest n bs, p, s, h) (valid-lines bs c x y))
+      d
 
 -- ---- the pixels of a judged sub-block lie in the file
 
-record Whole (bs : List ℕ) (e : ℕ) : Type 0 where
-  pub x : stored bs (letterPlace bs e 88) ≡ size bs (letterPlace bs e 88)
-  pub y : stored bs (letterPlace bs e 89) ≡ size bs (letterPlace bs e 89)
+record Whole (ds : List ℕ) (e : ℕ) : Type 0 where
+  pub x : stored ds (letterPlace ds e 88) ≡ size ds (letterPlace ds e 88)
+  pub y : stored ds (letterPlace ds e 89) ≡ size ds (letterPlace ds e 89)
 
 -- no pyramid tile: stored size is Size
-whole-ok : (bs : List ℕ) (e : ℕ) → isPyramid bs e ≡ false → Whole bs e
+whole-ok : (ds : List ℕ) (e : ℕ) → isPyramid ds e ≡ false → Whole ds e
 unfolding isPyramid
-whole-ok bs e h = record { x = eqb-true _ _ (not-false _ (none _ h 0)); y = eqb-true _ _ (not-false _ (none _ h 1)) }
+whole-ok ds e h = record { x = eqb-true _ _ (not-false _ (none _ h 0)); y = eqb-true _ _ (not-false _ (none _ h 1)) }
 
-pixels-room : (bs : List ℕ) (e q : ℕ) → Filled bs e bs q → isPyramid bs e ≡ false
-    → pixelsPlace bs e bs q + rectangle bs e .height * rectangle bs e .width * pixelBytes (pixelType bs e) ≤ length bs
-unfolding rectangle pixelsSize
-pixels-room bs e q f h =
-    let l = filled-in bs e bs q f in
-    let p = whole-ok bs e h in
-    rw (← p .x, ← p .y, mul-comm (stored bs (letterPlace bs e 89)) (stored bs (letterPlace bs e 88)), ← l .size) (l .pixels)
+module _ {ds : List ℕ} {e : ℕ} {bs : List ℕ} {q : ℕ} where
+  pixels-room : Filled ds e bs q → isPyramid ds e ≡ false
+      → pixelsPlace ds e bs q + rectangle ds e .height * rectangle ds e .width * pixelBytes (pixelType ds e) ≤ length bs
+  unfolding rectangle pixelsSize
+  pixels-room f h =
+      let l = filled-in ds e bs q f in
+      let p = whole-ok ds e h in
+      rw (← p .x, ← p .y, mul-comm (stored ds (letterPlace ds e 89)) (stored ds (letterPlace ds e 88)), ← l .size) (l .pixels)
 
-pub turn-room : (t m bs : List ℕ) (e : ℕ) (w : Rect) (k : Mask) (lines : List ℕ) → PaintRoom t m bs e w → LinesRoom k lines
-    → TurnRoom t m w (rectangle bs e) (drop (pixelsPlace bs e bs (filePosition bs e)) bs) (pixelBytes (pixelType bs e)) k lines
-turn-room t m bs e w k lines p l =
-    let f = rectangle-edges bs e (p .judged .filled .agreed .placed .listed) in
-    let s = pixels-room bs e (filePosition bs e) (p .judged .filled) (p .whole) in
-    record {
-      room = p .room;
-      source = rw (length-drop (pixelsPlace bs e bs (filePosition bs e)) bs) (omega arith);
-      stride = l .stride;
-      mask = l .mask;
-      window-right = p .right;
-      window-bottom = p .bottom;
-      tile-right = omega (arith, f .right);
-      tile-bottom = omega (arith, f .bottom);
-    }
+  turn-room : {t m : List ℕ} {w : Rect} {k : Mask} {lines : List ℕ} → TileRoom t m ds e bs q w → LinesRoom k lines
+      → TurnRoom t m w (rectangle ds e) (drop (pixelsPlace ds e bs q) bs) (pixelBytes (pixelType ds e)) k lines
+  turn-room p l =
+      let f = rectangle-edges ds e (p .filled .agreed .placed .listed) in
+      let s = pixels-room (p .filled) (p .whole) in
+      record {
+        room = p .room;
+        source = rw (length-drop (pixelsPlace ds e bs q) bs) (omega arith);
+        stride = l .stride;
+        mask = l .mask;
+        window-right = p .right;
+        window-bottom = p .bottom;
+        tile-right = omega (arith, f .right);
+        tile-bottom = omega (arith, f .bottom);
+      }
 
--- ---- what is lent on, with what was read of the entry
+  -- where the pixels begin, as it was read
+  pub pixels-in : {t m : List ℕ} {w : Rect} (from : ℕ) → TileRoom t m ds e bs q w → from ≡ pixelsPlace ds e bs q → from ≤ length bs
+  pixels-in from p h = omega (arith, pixels-room (p .filled) (p .whole))
 
-module _ (t m bs : List ℕ) (e : ℕ) (w : Rect) (k : Mask) (lines : List ℕ) (a : Rect) (b from : ℕ)
-    (ha : a ≡ rectangle bs e) (hb : b ≡ pixelBytes (pixelType bs e)) (hf : from ≡ pixelsPlace bs e bs (filePosition bs e)) where
-  pub lent-room : PaintRoom t m bs e w → LinesRoom k lines → TurnRoom t m w a (take (length bs - from) (drop from bs)) b k lines
-  lent-room p l = rw (rest from bs, ha, hb, hf) (turn-room t m bs e w k lines p l)
+  -- what is lent on, with what was read of the entry
+  pub lent-room : {t m : List ℕ} {w : Rect} {k : Mask} {lines : List ℕ} (a : Rect) (b from : ℕ)
+      → a ≡ rectangle ds e → b ≡ pixelBytes (pixelType ds e) → from ≡ pixelsPlace ds e bs q → TileRoom t m ds e bs q w → LinesRoom k lines
+      → TurnRoom t m w a (take (length bs - from) (drop from bs)) b k lines
+  lent-room a b from ha hb hf p l = rw (rest from bs, ha, hb, hf) (turn-room p l)
 
-  pub lent-turned : (q : Bool) (t′ m′ : List ℕ) (r : ℕ) → Turned t m w a (take (length bs - from) (drop from bs)) b k lines q t′ m′ r
-      → TurnedBehind t m bs e w k lines q t′ m′ r
-  lent-turned q t′ m′ n d = rw (rest from bs, ha, hb, hf) at d
+  pub lent-turned : {t m : List ℕ} {w : Rect} {k : Mask} {lines : List ℕ} (a : Rect) (b from : ℕ) {quick : Bool} {t′ m′ : List ℕ} {r : ℕ}
+      → a ≡ rectangle ds e → b ≡ pixelBytes (pixelType ds e) → from ≡ pixelsPlace ds e bs q
+      → Turned t m w a (take (length bs - from) (drop from bs)) b k lines quick t′ m′ r → TurnedBehind t m ds e bs q w k lines quick t′ m′ r
+  lent-turned a b from ha hb hf d = record { behind = rw (rest from bs, ha, hb, hf) at d }
 
 -- the file from n on, at most the first of the mask's lines
-pub lines-room : (bs : List ℕ) (c : ℕ) (shape : MaskShape) → Lined bs c shape → (n : ℕ) → n ≤ c + 36 → LinesRoom (maskWith shape) (take (length bs - n) (drop n bs))
-lines-room bs c shape l n h = record {
+pub lines-room : {bs : List ℕ} {c : ℕ} {shape : MaskShape} (n : ℕ) → Lined bs c shape → n ≤ c + 36 → LinesRoom (maskWith shape) (take (length bs - n) (drop n bs))
+lines-room {bs} {c} {shape} n l h = record {
   stride = l .columns;
   mask = rw (rest n bs, length-drop n bs) (omega (arith, l .lines));
 }

@@ -90,10 +90,10 @@ covers-meets a w p h l e =
     meeting a w (omega arith) (omega arith) (omega arith) (omega arith)
 
 -- a tile that does not meet the window gives none of its pixels
-pub gives-none : (bs : List ℕ) (on : Bool) (k e q : ℕ) (w : Rect) → meets (rectangle bs e) w ≡ false → 1 ≤ w .width → (p : ℕ) → p < area w
-    → givesAt w (entryTile bs on k e bs q) p ≡ false
+pub gives-none : (ds : List ℕ) (on : Bool) (k e : ℕ) (bs : List ℕ) (q : ℕ) (w : Rect) → meets (rectangle ds e) w ≡ false → 1 ≤ w .width → (p : ℕ) → p < area w
+    → givesAt w (entryTile ds on k e bs q) p ≡ false
 unfolding entryTile
-gives-none bs on k e q w m h p l =
-    by-bool (covers (rectangle bs e) (colOf w p) (rowOf w p))
-    (λ c. absurd (true≢false (covers-meets (rectangle bs e) w p h l c ∙ m)))
+gives-none ds on k e bs q w m h p l =
+    by-bool (covers (rectangle ds e) (colOf w p) (rowOf w p))
+    (λ c. absurd (true≢false (covers-meets (rectangle ds e) w p h l c ∙ m)))
     (λ c. rw c)

@@ -1,12 +1,12 @@
--- One turn of the tile of a file's entry, over lent bytes.
+-- One turn of the tile of an entry, over lent bytes. The entry stands at e of the file ds, its sub-block at q of the file bs.
 use mathlib.Core.Path.{_≡_}
 use Prim.Native.Nat.{ℕ, _+_, _*_, _^_, _≤_, _<_}
 use mathlib.Core.List.{List}
-use mathlib.Core.Bool.{Bool, false}
+use mathlib.Core.Bool.{Bool, true, false}
 use lib.ListN.{length, drop}
-use Rattle.format.specs.Entry.{pixelType, pixelBytes, filePosition, isPyramid}
+use Rattle.format.specs.Entry.{pixelType, pixelBytes, isPyramid}
 use Rattle.format.specs.SubBlock.{pixelsPlace}
-use Rattle.subblocks.specs.Judged.{Judged}
+use Rattle.subblocks.specs.Judged.{Filled, Judged}
 use Rattle.plane.specs.declared.Rect.{Rect}
 use Rattle.plane.specs.Turns.{Painting, turn}
 use Rattle.plane.specs.Demand2.{Room}
@@ -14,19 +14,24 @@ use Rattle.turns.specs.Turned.{kindOf, Turned}
 use Rattle.turns.specs.declared.Mask.{Mask}
 use Rattle.tiles.specs.FileTile.{rectangle, entryTile}
 
--- the entry at e of the file bs is judged, its tile is no pyramid tile, and the window w has room in the target t and the map m and edges that fit 64 bits
-pub record PaintRoom (t m bs : List ℕ) (e : ℕ) (w : Rect) : Type 0 where
-  pub judged : Judged bs e bs (filePosition bs e)
-  pub whole : isPyramid bs e ≡ false
-  pub room : Room w (pixelBytes (pixelType bs e)) t m
+-- the tile's pixels lie in the file, it is no pyramid tile, and the window w has room in the target t and the map m and edges that fit 64 bits
+pub record TileRoom (t m ds : List ℕ) (e : ℕ) (bs : List ℕ) (q : ℕ) (w : Rect) : Type 0 where
+  pub filled : Filled ds e bs q
+  pub whole : isPyramid ds e ≡ false
+  pub room : Room w (pixelBytes (pixelType ds e)) t m
   pub right : w .left + w .width < 2 ^ 64
   pub bottom : w .top + w .height < 2 ^ 64
 
+-- besides, where masks are on, the tile's chunks are judged
+pub record PaintRoom (t m ds : List ℕ) (e : ℕ) (bs : List ℕ) (q : ℕ) (on : Bool) (w : Rect) : Type 0 where
+  pub tile : TileRoom t m ds e bs q w
+  pub judged : on ≡ true → Judged ds e bs q
+
 -- target, map and store count after the turn are what the definition of a turn says of the entry's tile, whatever its number k and the store count before
-pub record Painted (t m bs : List ℕ) (on : Bool) (e : ℕ) (w : Rect) (q : Bool) (t′ m′ : List ℕ) (r : ℕ) : Type 0 where
+pub record Painted (t m ds : List ℕ) (e : ℕ) (bs : List ℕ) (q : ℕ) (on : Bool) (w : Rect) (quick : Bool) (t′ m′ : List ℕ) (r : ℕ) : Type 0 where
   pub painted : (k stored : ℕ)
       → _≡_ {A = Painting} (record { target = t′; map = m′; stored = stored + r })
-      (turn (kindOf q) w (pixelBytes (pixelType bs e)) (entryTile bs on k e bs (filePosition bs e)) (record { target = t; map = m; stored = stored }))
+      (turn (kindOf quick) w (pixelBytes (pixelType ds e)) (entryTile ds on k e bs q) (record { target = t; map = m; stored = stored }))
 
 -- ---- the same, with the mask given by its dimensions and its lines
 
@@ -36,6 +41,5 @@ pub record LinesRoom (k : Mask) (lines : List ℕ) : Type 0 where
   pub mask : k .height * k .stride ≤ length lines
 
 -- the turn of the tile that has the entry's rectangle and pixels, and this mask
-abbrev pub TurnedBehind : (t m bs : List ℕ) (e : ℕ) (w : Rect) (k : Mask) (lines : List ℕ) (q : Bool) (t′ m′ : List ℕ) (r : ℕ) → Type 0
-TurnedBehind t m bs e w k lines q t′ m′ r =
-    Turned t m w (rectangle bs e) (drop (pixelsPlace bs e bs (filePosition bs e)) bs) (pixelBytes (pixelType bs e)) k lines q t′ m′ r
+pub record TurnedBehind (t m ds : List ℕ) (e : ℕ) (bs : List ℕ) (q : ℕ) (w : Rect) (k : Mask) (lines : List ℕ) (quick : Bool) (t′ m′ : List ℕ) (r : ℕ) : Type 0 where
+  pub behind : Turned t m w (rectangle ds e) (drop (pixelsPlace ds e bs q) bs) (pixelBytes (pixelType ds e)) k lines quick t′ m′ r

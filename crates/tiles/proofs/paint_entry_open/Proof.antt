@@ -1,7 +1,6 @@
 -- `tiles::paint_entry_open` meets its contract.
-use mathlib.Core.Path.{refl}
-use Rattle.tiles.proofs.EntryTiles.{painted-open}
 use borrow.Author.Needs.{needs}
+use Rattle.tiles.proofs.EntryTiles.{painted-open}
 use Rattle.tiles.proofs.paint_entry_open.Statement.{statement}
 use Rattle.tiles.proofs.paint_entry_open.Tie as tie
 
@@ -13,4 +12,4 @@ paint-entry-open-spec =
     (λ c κs. search needs)
     (λ c. search needs)
     (λ c. search needs)
-    (λ c. painted-open _ _ _ _ _ _ _ _ _ _ _ refl (c .before .before .before .before .paint-behind .ensures)))
+    (λ c. search painted-open))
