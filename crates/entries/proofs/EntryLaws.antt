@@ -8,7 +8,7 @@ use lib.Dec.{eqb, leb, ltb}
 use lib.IntN.{pos, negsuc, _+ℤ_, _-ℤ_}
 use lib.Signed.{mag}
 use borrow.Author.Tests.{lt-ltb, le-ltb, eq-eqb, ne-eqb, ltb-true, ltb-false, leb-false, eqb-true, eqb-false, not-false}
-use Rattle.format.specs.Bytes.{u32At, sameAt, anyOf, anyBelow, leastBelow, signed32, biased}
+use Rattle.format.specs.Bytes.{sameAt, anyOf, anyBelow, leastBelow, signed32, biased}
 use Rattle.format.specs.Names.{markTile}
 use Rattle.format.specs.Entry.{dimensionCount, letter, start, size, stored, storedField, dimensionPlace, nextEntry, hasLetter, letterIndex, letterPlace}
 use Rattle.format.specs.Entry.{headBad, letterBad, tooFar, isPlane, sizeBad, dimensionBad, repeats, closesPlane, dimensionsBad, pixelBytes}
@@ -107,21 +107,25 @@ end-signed x z fits h = go (ltb x (2 ^ 31)) refl
     go true e = omega (arith, ltb-true x (2 ^ 31) e)
     go false e = rw (lt-ltb x (2 ^ 32) fits) (sum (ltb z (suc (2 ^ 32 - suc x))) refl (ltb-false x (2 ^ 31) e))
 
--- a sum of biased numbers that were read: x and y of Start and Size
-module _ (bs : List ℕ) (d a b x y : ℕ) (i : a ≡ u32At bs (d + 4)) (j : b ≡ u32At bs (d + 8)) (k : x ≡ biased a) (l : y ≡ biased b) where
+-- a sum of biased numbers: x of Start, y of Size, which is b
+module _ (bs : List ℕ) (d b x y : ℕ) (k : x ≡ biased (start bs d)) (j : b ≡ size bs d) (l : y ≡ biased b) where
   pub far : 6442450943 < x + y → true ≡ tooFar bs d
-  unfolding tooFar start size
-  far h = rw (← i, ← j, ← k, ← l) (sym (lt-ltb 6442450943 (x + y) h))
+  unfolding tooFar
+  far h = rw (← j, ← k, ← l) (sym (lt-ltb 6442450943 (x + y) h))
 
   pub near : x + y ≤ 6442450943 → false ≡ tooFar bs d
-  unfolding tooFar start size
-  near h = rw (← i, ← j, ← k, ← l) (sym (le-ltb 6442450943 (x + y) h))
+  unfolding tooFar
+  near h = rw (← j, ← k, ← l) (sym (le-ltb 6442450943 (x + y) h))
 
 -- ---- the place of a dimension
 
 pub dimension-within : (bs : List ℕ) (e k : ℕ) → k < dimensionCount bs e → dimensionPlace e k + 20 ≤ nextEntry bs e
 unfolding nextEntry
 dimension-within bs e k h = omega arith
+
+-- the answer r for the dimension at d, which is dimension k
+pub bad-at : (bs : List ℕ) (e k d : ℕ) (r : Bool) → d ≡ dimensionPlace e k → r ≡ dimensionBad bs d → r ≡ dimensionBad bs (dimensionPlace e k)
+bad-at bs e k d r i j = rw (← i) j
 
 -- ---- the dimension of a letter
 
@@ -147,13 +151,11 @@ letter-placed bs e x h =
     record { index = l .below; within = dimension-within bs e _ (l .below); letter-is = eqb-true _ x (l .holds) }
 
 -- the stored size a and Size b of the dimension of the letter l, which were read at d
-module _ (bs : List ℕ) (e l d a b : ℕ) (i : d ≡ letterPlace bs e l) (j : a ≡ stored bs d) (k : b ≡ u32At bs (d + 8)) where
+module _ (bs : List ℕ) (e l d a b : ℕ) (i : d ≡ letterPlace bs e l) (j : a ≡ stored bs d) (k : b ≡ size bs d) where
   pub size-other : (a ≡ b → ⊥) → eqb (stored bs (letterPlace bs e l)) (size bs (letterPlace bs e l)) ≡ false
-  unfolding size
   size-other h = rw (← i, ← j, ← k) (ne-eqb a b h)
 
   pub size-same : a ≡ b → eqb (stored bs (letterPlace bs e l)) (size bs (letterPlace bs e l)) ≡ true
-  unfolding size
   size-same h = rw (← i, ← j, ← k) (eq-eqb a b h)
 
 -- ---- the dimensions of an entry

@@ -6,17 +6,141 @@ ghost use mathlib.Core.Path.{_≡_};
 ghost use Prim.Native.Nat.{_+_, _*_, _<_, _≤_, _^_};
 ghost use mathlib.Core.Bool.{false};
 ghost use lib.ListN.{length};
-ghost use Rattle.format.specs.Bytes.{anyBelow};
-ghost use Rattle.format.specs.Entry.{dimensionCount, headBad, letterBad, tooFar, isPlane, stored, sizeBad, dimensionBad, dimensionPlace, nextEntry, hasLetter, repeats, closesPlane, dimensionsBad, letterIndex, letterPlace, isPyramid, pixelBytes};
+ghost use Rattle.format.specs.Bytes.{anyBelow, biased};
+ghost use Rattle.format.specs.Entry.{pixelType, filePosition, entryPart, compression, pyramidByte, dimensionCount, dimensionPlace, nextEntry};
+ghost use Rattle.format.specs.Entry.{letter, start, size, coordinateBits, storedField, stored};
+ghost use Rattle.format.specs.Entry.{headBad, letterBad, tooFar, isPlane, sizeBad, dimensionBad, hasLetter, repeats, closesPlane, dimensionsBad, letterIndex, letterPlace, isPyramid, pixelBytes};
 ghost use Rattle.format.specs.Records.{extentAt, mIndexOf, dimensionAt};
 
-// How many dimensions the entry at e has.
+// ---- the fields of the entry at e
+
+// PixelType.
+pub fn pixel_type(s: &[u8], e: u64) -> u64
+    requires { ⌜ e + 32 ≤ length (now s) ⌝ }
+    ensures { λ r. ⌜ (r ≡ pixelType (now (s .entry)) e) × (r < 2 ^ 32) ⌝ }
+{
+    fields::u32_at(s, e + 2)
+}
+
+// FilePosition: where its sub-block stands.
+pub fn file_position(s: &[u8], e: u64) -> u64
+    requires { ⌜ e + 32 ≤ length (now s) ⌝ }
+    ensures { λ r. ⌜ r ≡ filePosition (now (s .entry)) e ⌝ }
+{
+    fields::u64_at(s, e + 6)
+}
+
+// FilePart.
+pub fn file_part(s: &[u8], e: u64) -> u64
+    requires { ⌜ e + 32 ≤ length (now s) ⌝ }
+    ensures { λ r. ⌜ (r ≡ entryPart (now (s .entry)) e) × (r < 2 ^ 32) ⌝ }
+{
+    fields::u32_at(s, e + 14)
+}
+
+// Compression.
+pub fn compression(s: &[u8], e: u64) -> u64
+    requires { ⌜ e + 32 ≤ length (now s) ⌝ }
+    ensures { λ r. ⌜ (r ≡ compression (now (s .entry)) e) × (r < 2 ^ 32) ⌝ }
+{
+    fields::u32_at(s, e + 18)
+}
+
+// The pyramid byte.
+pub fn pyramid_byte(s: &[u8], e: u64) -> u64
+    requires { ⌜ e + 32 ≤ length (now s) ⌝ }
+    ensures { λ r. ⌜ (r ≡ pyramidByte (now (s .entry)) e) × (r < 256) ⌝ }
+{
+    fields::byte_at(s, e + 22)
+}
+
+// How many dimensions the entry has.
 pub fn dimension_count(s: &[u8], e: u64) -> u64
     requires { ⌜ e + 32 ≤ length (now s) ⌝ }
     ensures { λ r. ⌜ (r ≡ dimensionCount (now (s .entry)) e) × (r < 2 ^ 32) ⌝ }
 {
     fields::u32_at(s, e + 28)
 }
+
+// The place of its dimension k.
+pub fn dimension_place(e: u64, k: u64) -> u64
+    requires { ⌜ dimensionPlace e k < 2 ^ 64 ⌝ }
+    ensures { λ r. ⌜ r ≡ dimensionPlace e k ⌝ }
+{
+    e + 32 + 20 * k
+}
+
+// The place behind the entry.
+pub fn next_entry(s: &[u8], e: u64) -> u64
+    requires { ⌜ (e + 32 ≤ length (now s)) × (nextEntry (now s) e < 2 ^ 64) ⌝ }
+    ensures { λ r. ⌜ r ≡ nextEntry (now (s .entry)) e ⌝ }
+{
+    dimension_place(e, dimension_count(s, e))
+}
+
+// ---- the fields of the dimension at d
+
+// Its letter.
+pub fn letter_at(s: &[u8], d: u64) -> u64
+    requires { ⌜ d + 20 ≤ length (now s) ⌝ }
+    ensures { λ r. ⌜ (r ≡ letter (now (s .entry)) d) × (r < 2 ^ 32) ⌝ }
+{
+    fields::u32_at(s, d)
+}
+
+// The bits of Start.
+pub fn start_at(s: &[u8], d: u64) -> u64
+    requires { ⌜ d + 20 ≤ length (now s) ⌝ }
+    ensures { λ r. ⌜ (r ≡ start (now (s .entry)) d) × (r < 2 ^ 32) ⌝ }
+{
+    fields::u32_at(s, d + 4)
+}
+
+// Start plus 2^31.
+pub fn biased_start(s: &[u8], d: u64) -> u64
+    requires { ⌜ d + 20 ≤ length (now s) ⌝ }
+    ensures { λ r. ⌜ (r ≡ biased (start (now (s .entry)) d)) × (r < 2 ^ 32) ⌝ }
+{
+    fields::biased_of(start_at(s, d))
+}
+
+// Size.
+pub fn size_at(s: &[u8], d: u64) -> u64
+    requires { ⌜ d + 20 ≤ length (now s) ⌝ }
+    ensures { λ r. ⌜ (r ≡ size (now (s .entry)) d) × (r < 2 ^ 32) ⌝ }
+{
+    fields::u32_at(s, d + 8)
+}
+
+// The bits of StartCoordinate.
+pub fn coordinate_bits(s: &[u8], d: u64) -> u64
+    requires { ⌜ d + 20 ≤ length (now s) ⌝ }
+    ensures { λ r. ⌜ (r ≡ coordinateBits (now (s .entry)) d) × (r < 2 ^ 32) ⌝ }
+{
+    fields::u32_at(s, d + 12)
+}
+
+// StoredSize.
+pub fn stored_field(s: &[u8], d: u64) -> u64
+    requires { ⌜ d + 20 ≤ length (now s) ⌝ }
+    ensures { λ r. ⌜ (r ≡ storedField (now (s .entry)) d) × (r < 2 ^ 32) ⌝ }
+{
+    fields::u32_at(s, d + 16)
+}
+
+// The stored size: StoredSize, where 0 is read as Size.
+pub fn stored_at(s: &[u8], d: u64) -> u64
+    requires { ⌜ d + 20 ≤ length (now s) ⌝ }
+    ensures { λ r. ⌜ r ≡ stored (now (s .entry)) d ⌝ }
+{
+    let field = stored_field(s, d);
+    if field == 0 {
+        return size_at(s, d);
+    }
+    field
+}
+
+// ---- refusal 11
 
 // Refusal 11 for the mark and the number of dimensions.
 pub fn head_bad(s: &[u8], e: u64) -> bool
@@ -41,7 +165,7 @@ fn letter_bad(s: &[u8], d: u64) -> bool
     requires { ⌜ d + 20 ≤ length (now s) ⌝ }
     ensures { λ r. ⌜ r ≡ letterBad (now (s .entry)) d ⌝ }
 {
-    let letter = fields::u32_at(s, d);
+    let letter = letter_at(s, d);
     if letter < 65 {
         return true;
     }
@@ -56,9 +180,7 @@ fn too_far(s: &[u8], d: u64) -> bool
     requires { ⌜ d + 20 ≤ length (now s) ⌝ }
     ensures { λ r. ⌜ r ≡ tooFar (now (s .entry)) d ⌝ }
 {
-    let start = fields::u32_at(s, d + 4);
-    let size = fields::u32_at(s, d + 8);
-    let end = fields::biased_of(start) + fields::biased_of(size);
+    let end = biased_start(s, d) + fields::biased_of(size_at(s, d));
     if 6442450943 < end {
         return true;
     }
@@ -78,25 +200,13 @@ fn is_plane(letter: u64) -> bool
     false
 }
 
-// The stored size of the dimension at d.
-pub fn stored_at(s: &[u8], d: u64) -> u64
-    requires { ⌜ d + 20 ≤ length (now s) ⌝ }
-    ensures { λ r. ⌜ r ≡ stored (now (s .entry)) d ⌝ }
-{
-    let field = fields::u32_at(s, d + 16);
-    if field == 0 {
-        return fields::u32_at(s, d + 8);
-    }
-    field
-}
-
 // X and Y have a Size of at least 1; any other dimension has Size 1 and stored size 1.
 fn size_bad(s: &[u8], d: u64) -> bool
     requires { ⌜ d + 20 ≤ length (now s) ⌝ }
     ensures { λ r. ⌜ r ≡ sizeBad (now (s .entry)) d ⌝ }
 {
-    let letter = fields::u32_at(s, d);
-    let size = fields::u32_at(s, d + 8);
+    let letter = letter_at(s, d);
+    let size = size_at(s, d);
     if is_plane(letter) {
         if size == 0 {
             return true;
@@ -126,7 +236,7 @@ fn dimension_bad(s: &[u8], d: u64) -> bool
     if too_far(s, d) {
         return true;
     }
-    if 2147483648 <= fields::u32_at(s, d + 16) {
+    if 2147483648 <= stored_field(s, d) {
         return true;
     }
     if size_bad(s, d) {
@@ -143,7 +253,7 @@ fn some_bad(s: &[u8], e: u64) -> bool
     let n = dimension_count(s, e);
     let mut k: u64 = 0;
     while k < n {
-        if dimension_bad(s, e + 32 + 20 * k) {
+        if dimension_bad(s, dimension_place(e, k)) {
             return true;
         }
         k += 1;
@@ -156,7 +266,7 @@ fn has_letter(s: &[u8], e: u64, x: u64, k: u64) -> bool
     requires { ⌜ dimensionPlace e k + 20 ≤ length (now s) ⌝ }
     ensures { λ r. ⌜ r ≡ hasLetter (now (s .entry)) e x k ⌝ }
 {
-    if fields::u32_at(s, e + 32 + 20 * k) == x {
+    if letter_at(s, dimension_place(e, k)) == x {
         return true;
     }
     false
@@ -182,7 +292,7 @@ fn repeats_at(s: &[u8], e: u64, j: u64) -> bool
     requires { ⌜ dimensionPlace e j + 20 ≤ length (now s) ⌝ }
     ensures { λ r. ⌜ r ≡ repeats (now (s .entry)) e j ⌝ }
 {
-    let x = fields::u32_at(s, e + 32 + 20 * j);
+    let x = letter_at(s, dimension_place(e, j));
     holds_below(s, e, x, j)
 }
 
@@ -276,7 +386,7 @@ pub fn letter_place(s: &[u8], e: u64, x: u64) -> u64
     requires { ⌜ nextEntry (now s) e ≤ length (now s) ⌝ }
     ensures { λ r. ⌜ r ≡ letterPlace (now (s .entry)) e x ⌝ }
 {
-    e + 32 + 20 * letter_index(s, e, x)
+    dimension_place(e, letter_index(s, e, x))
 }
 
 // A pyramid tile: stored X or stored Y is not Size.
@@ -285,11 +395,11 @@ pub fn is_pyramid(s: &[u8], e: u64) -> bool
     ensures { λ r. ⌜ r ≡ isPyramid (now (s .entry)) e ⌝ }
 {
     let x = letter_place(s, e, 88);
-    if stored_at(s, x) != fields::u32_at(s, x + 8) {
+    if stored_at(s, x) != size_at(s, x) {
         return true;
     }
     let y = letter_place(s, e, 89);
-    if stored_at(s, y) != fields::u32_at(s, y + 8) {
+    if stored_at(s, y) != size_at(s, y) {
         return true;
     }
     false
@@ -318,8 +428,8 @@ pub fn extent_at(s: &[u8], d: u64) -> Extent
     requires { ⌜ d + 20 ≤ length (now s) ⌝ }
     ensures { λ r. ⌜ r ≡ extentAt (now (s .entry)) d ⌝ }
 {
-    let start = fields::signed_of(fields::u32_at(s, d + 4));
-    let size = fields::u32_at(s, d + 8);
+    let start = fields::signed_of(start_at(s, d));
+    let size = size_at(s, d);
     let stored = stored_at(s, d);
     Extent {
         start,
@@ -335,7 +445,7 @@ pub fn m_index_of(s: &[u8], e: u64) -> MIndex
 {
     if holds_letter(s, e, 77) {
         let d = letter_place(s, e, 77);
-        return MIndex::M(fields::signed_of(fields::u32_at(s, d + 4)));
+        return MIndex::M(fields::signed_of(start_at(s, d)));
     }
     MIndex::NoM
 }
@@ -345,10 +455,10 @@ pub fn dimension_at(s: &[u8], d: u64) -> Dimension
     requires { ⌜ d + 20 ≤ length (now s) ⌝ }
     ensures { λ r. ⌜ r ≡ dimensionAt (now (s .entry)) d ⌝ }
 {
-    let letter = fields::u32_at(s, d);
-    let start = fields::signed_of(fields::u32_at(s, d + 4));
-    let size = fields::u32_at(s, d + 8);
-    let coordinate_bits = fields::u32_at(s, d + 12) as u32;
+    let letter = letter_at(s, d);
+    let start = fields::signed_of(start_at(s, d));
+    let size = size_at(s, d);
+    let coordinate_bits = coordinate_bits(s, d) as u32;
     let coordinate = fields::float_of(coordinate_bits);
     let stored = stored_at(s, d);
     Dimension {

@@ -12,6 +12,8 @@ use fields::same_name;
 use fields::u64_at;
 use format::Verdict;
 
+pub mod file;
+
 // The verdict on the segments, with their number: 0 where they are refused.
 pub struct Walked {
     pub verdict: Verdict,

@@ -1,12 +1,12 @@
 -- `entries::dimension_bad` meets its contract.
 use borrow.Author.Needs.{needs}
-use Rattle.format.specs.Entry.{dimensionBad, storedField}
+use Rattle.format.specs.Entry.{dimensionBad}
 use Rattle.format.proofs.Flags.{flags, any-later}
 use Rattle.entries.proofs.dimension_bad.Statement.{statement}
 use Rattle.entries.proofs.dimension_bad.Tie as tie
 
 pub dimension-bad-spec : {M : Type 1} → statement M
-unfolding dimensionBad storedField
+unfolding dimensionBad
 dimension-bad-spec =
     tie.close
     (tie.spec
@@ -14,7 +14,6 @@ dimension-bad-spec =
     (λ c. search flags depth 8)
     (λ c κs. search needs)
     (λ c. search flags depth 8)
-    (λ c. search needs)
     (λ c κs. search needs)
     (λ c. search flags depth 8)
     (λ c κs. search needs)

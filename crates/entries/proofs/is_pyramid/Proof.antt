@@ -14,12 +14,10 @@ is-pyramid-spec =
     (tie.spec
     (λ c κs. search needs)
     (λ c κs. omega (arith, dimensions-ok _ _ (c .before .before .pre .1) .x .within))
-    (λ c. omega (arith, dimensions-ok _ _ (c .before .before .before .pre .1) .x .within))
     (λ c κs. omega (arith, dimensions-ok _ _ (c .before .before .before .pre .1) .x .within))
     (λ c. search (flags, size-other, size-same) depth 8)
     (λ c κs. search needs)
     (λ c κs. omega (arith, dimensions-ok _ _ (c .before .before .before .before .before .before .pre .1) .y .within))
-    (λ c. let y = c .before .before .before .before in omega (arith, dimensions-ok _ _ (y .before .before .before .pre .1) .y .within))
     (λ c κs. let y = c .before .before .before .before in omega (arith, dimensions-ok _ _ (y .before .before .before .pre .1) .y .within))
     (λ c. search (flags, size-other, size-same) depth 8)
     (λ c. search (flags, size-same) depth 8))

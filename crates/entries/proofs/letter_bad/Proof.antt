@@ -1,12 +1,12 @@
 -- `entries::letter_bad` meets its contract.
 use borrow.Author.Needs.{needs}
-use Rattle.format.specs.Entry.{letterBad, letter}
+use Rattle.format.specs.Entry.{letterBad}
 use Rattle.format.proofs.Flags.{flags}
 use Rattle.entries.proofs.letter_bad.Statement.{statement}
 use Rattle.entries.proofs.letter_bad.Tie as tie
 
 pub letter-bad-spec : {M : Type 1} → statement M
-unfolding letterBad letter
+unfolding letterBad
 letter-bad-spec =
     tie.close
     (tie.spec

@@ -12,8 +12,6 @@ unfolding nextEntry letterPlace
 letter-place-spec =
     tie.close
     (tie.spec
-    (λ c. omega arith)
     (λ c κs. search needs)
-    (λ c. omega (arith, index-within (now (c .before .before .args .s)) (c .before .before .args .e) (c .before .before .args .x)))
-    (λ c. omega (arith, index-within (now (c .before .before .args .s)) (c .before .before .args .e) (c .before .before .args .x)))
+    (λ c κs. omega (arith, index-within (now (c .before .before .args .s)) (c .before .before .args .e) (c .before .before .args .x)))
     (λ c. omega arith))

@@ -2,7 +2,6 @@
 use mathlib.Core.Path.{sym, _∙_}
 use native.Mathlib.Omega.{arith}
 use borrow.Author.Needs.{needs}
-use Rattle.format.specs.Entry.{start}
 use Rattle.format.specs.Records.{mIndexOf}
 use Rattle.entries.proofs.EntryLaws.{letter-placed}
 use Rattle.entries.proofs.ReadBack.{read-back}
@@ -10,13 +9,12 @@ use Rattle.entries.proofs.m_index_of.Statement.{statement}
 use Rattle.entries.proofs.m_index_of.Tie as tie
 
 pub m-index-of-spec : {M : Type 1} → statement M
-unfolding mIndexOf start
+unfolding mIndexOf
 m-index-of-spec =
     tie.close
     (tie.spec
     (λ c κs. search needs)
     (λ c κs. search needs)
-    (λ c. let p = letter-placed _ _ 77 (sym (c .before .before .holds-letter .ensures) ∙ c .before .if1 .taken) in omega (arith, p .within))
     (λ c κs. let p = letter-placed _ _ 77 (sym (c .before .before .holds-letter .ensures) ∙ c .before .if1 .taken) in omega (arith, p .within))
     (λ c κs. search needs)
     (λ c. rw (sym (c .before .before .before .before .holds-letter .ensures) ∙ c .before .before .before .if1 .taken) (cc (read-back _ (c .signed-of .ok))))
