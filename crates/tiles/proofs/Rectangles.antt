@@ -9,7 +9,7 @@ use lib.Dec.{leb, ltb}
 use lib.ListN.{length}
 use borrow.Author.Tests.{lt-ltb, le-ltb, leb-true, ltb-true}
 use Rattle.format.specs.Bytes.{biased}
-use Rattle.format.specs.Entry.{letterPlace}
+use Rattle.format.specs.Entry.{start, size, letterPlace}
 use Rattle.format.proofs.Below.{and-both}
 use Rattle.entries.proofs.EntryLaws.{dimensions-ok}
 use Rattle.subblocks.specs.Judged.{Listed}
@@ -18,17 +18,13 @@ use Rattle.plane.proofs.Tests.{by-bool}
 use Rattle.plane.specs.declared.Rect.{Rect}
 use Rattle.tiles.specs.FileTile.{rectangle, meets, entryTile}
 
-pub biased-fits : (x : ℕ) → biased x < 2 ^ 32
-unfolding biased
-biased-fits x = omega arith
+-- ---- X and Y lie in the file, at the places that were read
 
--- ---- X and Y lie in the file
+pub x-in : {ds : List ℕ} {e : ℕ} (d : ℕ) → Listed ds e → d ≡ letterPlace ds e 88 → d + 20 ≤ length ds
+x-in {ds} {e} d l h = omega (arith, l .entry, dimensions-ok ds e (l .dimensions) .x .within)
 
-pub x-in : (bs : List ℕ) (e : ℕ) → Listed bs e → letterPlace bs e 88 + 20 ≤ length bs
-x-in bs e l = omega (arith, l .entry, dimensions-ok bs e (l .dimensions) .x .within)
-
-pub y-in : (bs : List ℕ) (e : ℕ) → Listed bs e → letterPlace bs e 89 + 20 ≤ length bs
-y-in bs e l = omega (arith, l .entry, dimensions-ok bs e (l .dimensions) .y .within)
+pub y-in : {ds : List ℕ} {e : ℕ} (d : ℕ) → Listed ds e → d ≡ letterPlace ds e 89 → d + 20 ≤ length ds
+y-in {ds} {e} d l h = omega (arith, l .entry, dimensions-ok ds e (l .dimensions) .y .within)
 
 -- ---- bounds
 
@@ -44,7 +40,13 @@ rectangle-edges bs e l =
     let p = dimensions-ok bs e (l .dimensions) in
     record { right = p .x-sized .end; bottom = p .y-sized .end; wide = p .x-sized .size-some; high = p .y-sized .size-some }
 
--- of the rectangle that was read
+-- the rectangle by what was read of X and Y
+pub rectangle-is : (ds : List ℕ) (e x y left top width height : ℕ) → x ≡ letterPlace ds e 88 → y ≡ letterPlace ds e 89
+    → left ≡ biased (start ds x) → top ≡ biased (start ds y) → width ≡ size ds x → height ≡ size ds y
+    → _≡_ {A = Rect} (record { left = left; top = top; width = width; height = height }) (rectangle ds e)
+unfolding rectangle
+rectangle-is ds e x y left top width height a b c d f g = rw (c, d, f, g, a, b)
+
 pub read-edges : (bs : List ℕ) (e : ℕ) (a : Rect) → Listed bs e → a ≡ rectangle bs e → Edges a
 read-edges bs e a l h = rw h (rectangle-edges bs e l)
 

@@ -6,23 +6,13 @@ use plane::Rect;
 use turns::Mask;
 ghost use mathlib.Core.Path.{_≡_};
 ghost use mathlib.Core.Bool.{true, false};
-ghost use Prim.Native.Nat.{_+_, _≤_, _<_, _^_};
-ghost use lib.ListN.{length};
-ghost use Rattle.format.specs.Bytes.{biased};
-ghost use Rattle.format.specs.Entry.{pixelType, pixelBytes, start};
+ghost use Prim.Native.Nat.{_+_, _<_, _^_};
+ghost use Rattle.format.specs.Entry.{pixelType, pixelBytes};
 ghost use Rattle.format.specs.Records.{maskOf};
 ghost use Rattle.format.specs.declared.TileMask.the-variants.{Masked};
 ghost use Rattle.subblocks.specs.Judged.{Listed, Judged};
 ghost use Rattle.tiles.specs.FileTile.{rankOf, rectangle, meets};
 ghost use Rattle.tiles.specs.Painted.{TileRoom, PaintRoom, Painted, LinesRoom, TurnedBehind};
-
-// The Start of the dimension at that place, plus 2^31.
-fn start_at(s: &[u8], at: u64) -> u64
-    requires { ⌜ at + 20 ≤ length (now s) ⌝ }
-    ensures { λ r. ⌜ (r ≡ biased (start (now (s .entry)) at)) × (r < 2 ^ 32) ⌝ }
-{
-    fields::biased_of(fields::u32_at(s, at + 4))
-}
 
 // The rank of the tile of entry number k: by M, and at a tie by the entry's number.
 pub fn rank_of(d: &[u8], k: u64, e: u64) -> u64
@@ -31,7 +21,7 @@ pub fn rank_of(d: &[u8], k: u64, e: u64) -> u64
 {
     if entries::holds_letter(d, e, 77) {
         let m = entries::letter_place(d, e, 77);
-        return (start_at(d, m) + 1) * 4096 + k;
+        return (entries::biased_start(d, m) + 1) * 4096 + k;
     }
     k
 }
@@ -42,11 +32,11 @@ pub fn rectangle_of(d: &[u8], e: u64) -> Rect
     ensures { λ r. ⌜ r ≡ rectangle (now (d .entry)) e ⌝ }
 {
     let x = entries::letter_place(d, e, 88);
-    let left = start_at(d, x) as usize;
-    let width = fields::u32_at(d, x + 8) as usize;
+    let left = entries::biased_start(d, x) as usize;
+    let width = entries::size_at(d, x) as usize;
     let y = entries::letter_place(d, e, 89);
-    let top = start_at(d, y) as usize;
-    let height = fields::u32_at(d, y + 8) as usize;
+    let top = entries::biased_start(d, y) as usize;
+    let height = entries::size_at(d, y) as usize;
     Rect {
         left,
         top,
@@ -80,7 +70,7 @@ fn bytes_of(d: &[u8], e: u64) -> usize
     requires { ⌜ Listed (now d) e ⌝ }
     ensures { λ r. ⌜ r ≡ pixelBytes (pixelType (now (d .entry)) e) ⌝ }
 {
-    entries::pixel_bytes(fields::u32_at(d, e + 2)) as usize
+    entries::pixel_bytes(entries::pixel_type(d, e)) as usize
 }
 
 // One turn of the tile with the mask k of these lines in place of its own.

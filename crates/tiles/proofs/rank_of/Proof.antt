@@ -7,8 +7,8 @@ use Rattle.tiles.specs.FileTile.{rankOf}
 use Rattle.tiles.proofs.rank_of.Statement.{statement}
 use Rattle.tiles.proofs.rank_of.Tie as tie
 
-start-at-requires : tie.Need-start-at-requires
-start-at-requires c κs =
+biased-start-requires : tie.Need-biased-start-requires
+biased-start-requires c κs =
     let h = c .before .before in
     let p = letter-placed _ _ 77 (is-true _ _ (h .holds-letter .ensures) (c .before .if1 .taken)) in
     omega (arith, h .before .before .pre .0 .entry, p .within, c .letter-place .ensures)
@@ -17,8 +17,8 @@ returns : tie.Need-returns
 unfolding rankOf
 returns c =
     let h = c .before .before .before in (
-      rw (is-true _ _ (h .holds-letter .ensures) (c .before .before .if1 .taken), ← c .before .letter-place .ensures, ← c .start-at .ensures .0),
-      omega (arith, c .start-at .ensures .1, h .before .before .pre .1),
+      rw (is-true _ _ (h .holds-letter .ensures) (c .before .before .if1 .taken), ← c .before .letter-place .ensures, ← c .biased-start .ensures .0),
+      omega (arith, c .biased-start .ensures .1, h .before .before .pre .1),
     )
 
 returns-2 : tie.Need-returns-2
@@ -31,7 +31,7 @@ rank-of-spec =
     (tie.spec
     (λ c κs. search needs)
     (λ c κs. search needs)
-    start-at-requires
+    biased-start-requires
     (λ c. search needs)
     (λ c. search needs)
     (λ c. search needs)
