@@ -2,11 +2,11 @@
 use Prim.Native.Nat.{ℕ, _≤_, _<_}
 use mathlib.Core.Path.{_≡_, sym, ap, _∙_}
 use mathlib.Core.List.{List, map}
-use mathlib.Core.Bool.{Bool, false}
+use mathlib.Core.Bool.{false}
 use native.Mathlib.Omega.{arith}
-use Rattle.format.specs.Scan.{Scan}
-use Rattle.format.specs.Entry.{filePosition}
+use Rattle.format.specs.Choice.{Choice}
 use Rattle.format.specs.Directory.{entryPlace}
+use Rattle.format.specs.Records.{tileEntry, tileFile, tilePosition}
 use Rattle.plane.specs.Tiles.{Tile, area, givesAt}
 use Rattle.plane.specs.Turns.{Kind, run, start, compose}
 use Rattle.plane.specs.Demand2.{Room}
@@ -19,22 +19,28 @@ use Rattle.compose.specs.Steps.{chosenIn, takesTurn, keysBelow, tileOfKe
 use Rattle.compose.proofs.KeyTiles.{key-tiles, turn-tiles, turn-order, meetsWindow, file-meets}
 
 -- a tile of an entry that does not meet the window gives none of its pixels
-apart-entry : (sc : Scan) (on : Bool) (w : Rect) (k : ℕ) → meets (rectangle (sc .file) (entryPlace (sc .file) k)) w ≡ false → 1 ≤ w .width → (p : ℕ) → p < area w → givesAt w (fileTile sc on k) p ≡ false
+apart-entry : (ch : Choice) (w : Rect) (k : ℕ) → meets (rectangle (ch .scan .file) (entryPlace (ch .scan .file) k)) w ≡ false → 1 ≤ w .width
+    → (p : ℕ) → p < area w → givesAt w (fileTile ch k) p ≡ false
 unfolding fileTile
-apart-entry sc on w k e h p l = gives-none (sc .file) on k (entryPlace (sc .file) k) (filePosition (sc .file) (entryPlace (sc .file) k)) w e h p l
+apart-entry ch w k e h p l = gives-none (ch .scan .file) (ch .masks) k (tileEntry (ch .scan) k) (tileFile (ch .scan) k) (tilePosition (ch .scan) k) w e h p l
 
-module _ (sc : Scan) (on : Bool) (table : List ℕ) (w : Rect) where
-  apart : (n : ℕ) → n ≤ 4096 → 1 ≤ w .width → Apart w (meetsWindow sc on table w) (tilesBelow n sc on (chosenIn table))
+module _ (ch : Choice) (table : List ℕ) (w : Rect) where
+  apart : (n : ℕ) → n ≤ 4096 → 1 ≤ w .width → Apart w (meetsWindow ch table w) (tilesBelow n ch (chosenIn table))
   apart n h wide t i e p l =
-      let j = tiles-entry sc on (chosenIn table) n i in
+      let j = tiles-entry ch (chosenIn table) n i in
       let few = j .below in
-      let off : meets (rectangle (sc .file) (entryPlace (sc .file) (j .number))) w ≡ false = sym (file-meets sc on table w (j .number) (omega arith)) ∙ ap (meetsWindow sc on table w) (sym (j .tile)) ∙ e in
-      ap (λ (s : Tile). givesAt w s p) (j .tile) ∙ apart-entry sc on w (j .number) off wide p l
+      let off : meets (rectangle (ch .scan .file) (entryPlace (ch .scan .file) (j .number))) w ≡ false =
+      sym (file-meets ch table w (j .number) (omega arith)) ∙ ap (meetsWindow ch table w) (sym (j .tile)) ∙ e in
+      ap (λ (s : Tile). givesAt w s p) (j .tile) ∙ apart-entry ch w (j .number) off wide p l
 
   pub along : (k : Kind) (b : ℕ) (bg t m : List ℕ) (n : ℕ) → n ≤ 4096 → Room w b t m
-      → run k w b (turnOrder k (map (tileOfKey sc on) (keysBelow n (sc .file) table w))) (start w b bg t m) ≡ compose k w b bg (tilesBelow n sc on (chosenIn table)) t m
+      → run k w b (turnOrder k (map (tileOfKey ch) (keysBelow n (ch .scan .file) table w))) (start w b bg t m)
+      ≡ compose k w b bg (tilesBelow n ch (chosenIn table)) t m
   along k b bg t m n h r =
-      ap (λ (l : List Tile). run k w b (turnOrder k l) (start w b bg t m)) (key-tiles sc on table w n h)
-      ∙ ap (λ (l : List Tile). run k w b l (start w b bg t m)) (turn-order k (tilesBelow n sc on (takesTurn (sc .file) table w)))
-      ∙ ap (λ (l : List Tile). compose k w b bg l t m) (turn-tiles sc on table w n h)
-      ∙ sym (skip-compose w b (meetsWindow sc on table w) k bg (tilesBelow n sc on (chosenIn table)) t m (tiles-ranked sc on (chosenIn table) n h) r (apart n h (r .wide)))
+      ap (λ (l : List Tile). run k w b (turnOrder k l) (start w b bg t m)) (key-tiles ch table w n h)
+      ∙ ap (λ (l : List Tile). run k w b l (start w b bg t m)) (turn-order k (tilesBelow n ch (takesTurn (ch .scan .file) table w)))
+      ∙ ap (λ (l : List Tile). compose k w b bg l t m) (turn-tiles ch table w n h)
+      ∙ sym (
+      skip-compose w b (meetsWindow ch table w) k bg (tilesBelow n ch (chosenIn table)) t m (tiles-ranked ch (chosenIn table) n h) r
+      (apart n h (r .wide))
+      )

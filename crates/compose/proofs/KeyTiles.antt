@@ -6,7 +6,7 @@ use mathlib.Core.Bool.{Bool, true, false, cond}
 use native.Mathlib.Omega.{arith}
 use lib.ListN.{length, getD}
 use lib.Dec.{leb}
-use Rattle.format.specs.Scan.{Scan}
+use Rattle.format.specs.Choice.{Choice}
 use Rattle.format.specs.Directory.{entryPlace}
 use Rattle.plane.specs.Tiles.{Tile}
 use Rattle.plane.specs.Turns.{Kind, plain, quick, below, insert, bottomFirst, order}
@@ -19,20 +19,20 @@ use Rattle.compose.specs.Steps.{chosenIn, takesTurn, keysBelow, tileOfKe
 
 -- ---- ranks
 
-pub file-rank : (sc : Scan) (on : Bool) (k : ℕ) → fileTile sc on k .rank ≡ rankOf (sc .file) k (entryPlace (sc .file) k)
+pub file-rank : (ch : Choice) (k : ℕ) → fileTile ch k .rank ≡ rankOf (ch .scan .file) k (entryPlace (ch .scan .file) k)
 unfolding fileTile entryTile
-file-rank sc on k = refl
+file-rank ch k = refl
 
 below-is : (s t : Tile) (a b : ℕ) → s .rank ≡ a → t .rank ≡ b → below s t ≡ leb a b
 unfolding below
 below-is s t a b e f = rw (e, f)
 
-module _ (sc : Scan) (on : Bool) (table : List ℕ) (w : Rect) where
+module _ (ch : Choice) (table : List ℕ) (w : Rect) where
   -- what a key of an entry below n is: the rank of that entry's tile, which takes a turn
   pub record Key (n q : ℕ) : Type 0 where
     pub within : q % 4096 < n
-    pub rank : rankOf (sc .file) (q % 4096) (entryPlace (sc .file) (q % 4096)) ≡ q
-    pub turn : takesTurn (sc .file) table w (q % 4096) ≡ true
+    pub rank : rankOf (ch .scan .file) (q % 4096) (entryPlace (ch .scan .file) (q % 4096)) ≡ q
+    pub turn : takesTurn (ch .scan .file) table w (q % 4096) ≡ true
 
   abbrev pub Keys : ℕ → List ℕ → Type 0
   Keys n [] = Unit {0}
@@ -54,17 +54,17 @@ module _ (sc : Scan) (on : Bool) (table : List ℕ) (w : Rect) where
       go true i = (k, ks)
       go false i = (ks .0, i)
 
-  new-key : (n : ℕ) → n < 4096 → takesTurn (sc .file) table w n ≡ true → Key (suc n) (rankOf (sc .file) n (entryPlace (sc .file) n))
-  new-key n h t = let e = rank-entry sc n (entryPlace (sc .file) n) h in record { within = omega (arith, e); rank = rw e; turn = rw e t }
+  new-key : (n : ℕ) → n < 4096 → takesTurn (ch .scan .file) table w n ≡ true → Key (suc n) (rankOf (ch .scan .file) n (entryPlace (ch .scan .file) n))
+  new-key n h t = let e = rank-entry (ch .scan) n (entryPlace (ch .scan .file) n) h in record { within = omega (arith, e); rank = rw e; turn = rw e t }
 
-  pub keys-in : (n : ℕ) → n ≤ 4096 → Keys n (keysBelow n (sc .file) table w)
+  pub keys-in : (n : ℕ) → n ≤ 4096 → Keys n (keysBelow n (ch .scan .file) table w)
   unfolding keysBelow
   keys-in zero h = tt
-  keys-in (suc n) h = go (takesTurn (sc .file) table w n) refl (laters n (keysBelow n (sc .file) table w) (keys-in n (omega arith)))
+  keys-in (suc n) h = go (takesTurn (ch .scan .file) table w n) refl (laters n (keysBelow n (ch .scan .file) table w) (keys-in n (omega arith)))
     where
-      go : (b : Bool) → takesTurn (sc .file) table w n ≡ b → Keys (suc n) (keysBelow n (sc .file) table w)
-          → Keys (suc n) (cond b (insertKey (rankOf (sc .file) n (entryPlace (sc .file) n)) (keysBelow n (sc .file) table w)) (keysBelow n (sc .file) table w))
-      go true e ks = inserted (suc n) (rankOf (sc .file) n (entryPlace (sc .file) n)) (keysBelow n (sc .file) table w) (new-key n (omega arith) e) ks
+      go : (b : Bool) → takesTurn (ch .scan .file) table w n ≡ b → Keys (suc n) (keysBelow n (ch .scan .file) table w)
+          → Keys (suc n) (cond b (insertKey (rankOf (ch .scan .file) n (entryPlace (ch .scan .file) n)) (keysBelow n (ch .scan .file) table w)) (keysBelow n (ch .scan .file) table w))
+      go true e ks = inserted (suc n) (rankOf (ch .scan .file) n (entryPlace (ch .scan .file) n)) (keysBelow n (ch .scan .file) table w) (new-key n (omega arith) e) ks
       go false e ks = ks
 
   -- the key at a place
@@ -75,61 +75,61 @@ module _ (sc : Scan) (on : Bool) (table : List ℕ) (w : Rect) where
 
   -- ---- the tiles along the keys
 
-  key-rank : (n q : ℕ) → Key n q → tileOfKey sc on q .rank ≡ q
-  key-rank n q k = file-rank sc on (q % 4096) ∙ k .rank
+  key-rank : (n q : ℕ) → Key n q → tileOfKey ch q .rank ≡ q
+  key-rank n q k = file-rank ch (q % 4096) ∙ k .rank
 
-  map-insert : (n r : ℕ) (l : List ℕ) → Key n r → Keys n l → map (tileOfKey sc on) (insertKey r l) ≡ insert (tileOfKey sc on r) (map (tileOfKey sc on) l)
+  map-insert : (n r : ℕ) (l : List ℕ) → Key n r → Keys n l → map (tileOfKey ch) (insertKey r l) ≡ insert (tileOfKey ch r) (map (tileOfKey ch) l)
   unfolding insertKey insert
   map-insert n r [] k ks = refl
   map-insert n r (q ∷ l) k ks =
-      let e : below (tileOfKey sc on r) (tileOfKey sc on q) ≡ leb r q = below-is _ _ r q (key-rank n r k) (key-rank n q (ks .0)) in
+      let e : below (tileOfKey ch r) (tileOfKey ch q) ≡ leb r q = below-is _ _ r q (key-rank n r k) (key-rank n q (ks .0)) in
       rw e (go (leb r q) (map-insert n r l k (ks .1)))
     where
-      go : (b : Bool) → map (tileOfKey sc on) (insertKey r l) ≡ insert (tileOfKey sc on r) (map (tileOfKey sc on) l)
-          → map (tileOfKey sc on) (cond b (r ∷ q ∷ l) (q ∷ insertKey r l))
-          ≡ cond b (tileOfKey sc on r ∷ tileOfKey sc on q ∷ map (tileOfKey sc on) l) (tileOfKey sc on q ∷ insert (tileOfKey sc on r) (map (tileOfKey sc on) l))
+      go : (b : Bool) → map (tileOfKey ch) (insertKey r l) ≡ insert (tileOfKey ch r) (map (tileOfKey ch) l)
+          → map (tileOfKey ch) (cond b (r ∷ q ∷ l) (q ∷ insertKey r l))
+          ≡ cond b (tileOfKey ch r ∷ tileOfKey ch q ∷ map (tileOfKey ch) l) (tileOfKey ch q ∷ insert (tileOfKey ch r) (map (tileOfKey ch) l))
       go true i = refl
-      go false i = ap (λ (x : List Tile). tileOfKey sc on q ∷ x) i
+      go false i = ap (λ (x : List Tile). tileOfKey ch q ∷ x) i
 
-  pub key-tiles : (n : ℕ) → n ≤ 4096 → map (tileOfKey sc on) (keysBelow n (sc .file) table w) ≡ bottomFirst (tilesBelow n sc on (takesTurn (sc .file) table w))
+  pub key-tiles : (n : ℕ) → n ≤ 4096 → map (tileOfKey ch) (keysBelow n (ch .scan .file) table w) ≡ bottomFirst (tilesBelow n ch (takesTurn (ch .scan .file) table w))
   unfolding keysBelow tilesBelow bottomFirst
   key-tiles zero h = refl
-  key-tiles (suc n) h = go (takesTurn (sc .file) table w n) refl (key-tiles n (omega arith))
+  key-tiles (suc n) h = go (takesTurn (ch .scan .file) table w n) refl (key-tiles n (omega arith))
     where
-      go : (b : Bool) → takesTurn (sc .file) table w n ≡ b → map (tileOfKey sc on) (keysBelow n (sc .file) table w) ≡ bottomFirst (tilesBelow n sc on (takesTurn (sc .file) table w))
-          → map (tileOfKey sc on) (cond b (insertKey (rankOf (sc .file) n (entryPlace (sc .file) n)) (keysBelow n (sc .file) table w)) (keysBelow n (sc .file) table w))
-          ≡ bottomFirst (cond b (fileTile sc on n ∷ tilesBelow n sc on (takesTurn (sc .file) table w)) (tilesBelow n sc on (takesTurn (sc .file) table w)))
+      go : (b : Bool) → takesTurn (ch .scan .file) table w n ≡ b → map (tileOfKey ch) (keysBelow n (ch .scan .file) table w) ≡ bottomFirst (tilesBelow n ch (takesTurn (ch .scan .file) table w))
+          → map (tileOfKey ch) (cond b (insertKey (rankOf (ch .scan .file) n (entryPlace (ch .scan .file) n)) (keysBelow n (ch .scan .file) table w)) (keysBelow n (ch .scan .file) table w))
+          ≡ bottomFirst (cond b (fileTile ch n ∷ tilesBelow n ch (takesTurn (ch .scan .file) table w)) (tilesBelow n ch (takesTurn (ch .scan .file) table w)))
       go true e i =
-          map-insert (suc n) (rankOf (sc .file) n (entryPlace (sc .file) n)) (keysBelow n (sc .file) table w) (new-key n (omega arith) e) (laters n (keysBelow n (sc .file) table w) (keys-in n (omega arith)))
-          ∙ rw (rank-entry sc n (entryPlace (sc .file) n) (omega arith), i)
+          map-insert (suc n) (rankOf (ch .scan .file) n (entryPlace (ch .scan .file) n)) (keysBelow n (ch .scan .file) table w) (new-key n (omega arith) e) (laters n (keysBelow n (ch .scan .file) table w) (keys-in n (omega arith)))
+          ∙ rw (rank-entry (ch .scan) n (entryPlace (ch .scan .file) n) (omega arith), i)
       go false e i = i
 
   -- ---- the tiles that take a turn are the chosen ones that meet the window
 
   -- by its rank a tile shows its entry, and so its rectangle
   abbrev pub meetsWindow : Tile → Bool
-  meetsWindow t = meets (rectangle (sc .file) (entryPlace (sc .file) (t .rank % 4096))) w
+  meetsWindow t = meets (rectangle (ch .scan .file) (entryPlace (ch .scan .file) (t .rank % 4096))) w
 
-  pub file-meets : (k : ℕ) → k < 4096 → meetsWindow (fileTile sc on k) ≡ meets (rectangle (sc .file) (entryPlace (sc .file) k)) w
-  file-meets k h = rw (file-rank sc on k, rank-entry sc k (entryPlace (sc .file) k) h)
+  pub file-meets : (k : ℕ) → k < 4096 → meetsWindow (fileTile ch k) ≡ meets (rectangle (ch .scan .file) (entryPlace (ch .scan .file) k)) w
+  file-meets k h = rw (file-rank ch k, rank-entry (ch .scan) k (entryPlace (ch .scan .file) k) h)
 
-  pub turn-tiles : (n : ℕ) → n ≤ 4096 → tilesBelow n sc on (takesTurn (sc .file) table w) ≡ keep meetsWindow (tilesBelow n sc on (chosenIn table))
+  pub turn-tiles : (n : ℕ) → n ≤ 4096 → tilesBelow n ch (takesTurn (ch .scan .file) table w) ≡ keep meetsWindow (tilesBelow n ch (chosenIn table))
   unfolding tilesBelow keep
   turn-tiles zero h = refl
-  turn-tiles (suc n) h = go (chosenIn table n) (meets (rectangle (sc .file) (entryPlace (sc .file) n)) w) (file-meets n (omega arith)) (turn-tiles n (omega arith))
+  turn-tiles (suc n) h = go (chosenIn table n) (meets (rectangle (ch .scan .file) (entryPlace (ch .scan .file) n)) w) (file-meets n (omega arith)) (turn-tiles n (omega arith))
     where
-      go : (b m : Bool) → meetsWindow (fileTile sc on n) ≡ m → tilesBelow n sc on (takesTurn (sc .file) table w) ≡ keep meetsWindow (tilesBelow n sc on (chosenIn table))
-          → cond (cond b m false) (fileTile sc on n ∷ tilesBelow n sc on (takesTurn (sc .file) table w)) (tilesBelow n sc on (takesTurn (sc .file) table w))
-          ≡ keep meetsWindow (cond b (fileTile sc on n ∷ tilesBelow n sc on (chosenIn table)) (tilesBelow n sc on (chosenIn table)))
-      go true true e i = rw e (ap (λ (x : List Tile). fileTile sc on n ∷ x) i)
+      go : (b m : Bool) → meetsWindow (fileTile ch n) ≡ m → tilesBelow n ch (takesTurn (ch .scan .file) table w) ≡ keep meetsWindow (tilesBelow n ch (chosenIn table))
+          → cond (cond b m false) (fileTile ch n ∷ tilesBelow n ch (takesTurn (ch .scan .file) table w)) (tilesBelow n ch (takesTurn (ch .scan .file) table w))
+          ≡ keep meetsWindow (cond b (fileTile ch n ∷ tilesBelow n ch (chosenIn table)) (tilesBelow n ch (chosenIn table)))
+      go true true e i = rw e (ap (λ (x : List Tile). fileTile ch n ∷ x) i)
       go true false e i = rw e i
       go false m e i = i
 
 -- only the choice below n counts
-pub tiles-ext : (n : ℕ) (sc : Scan) (on : Bool) (c d : ℕ → Bool) → ((k : ℕ) → k < n → c k ≡ d k) → tilesBelow n sc on c ≡ tilesBelow n sc on d
+pub tiles-ext : (n : ℕ) (ch : Choice) (c d : ℕ → Bool) → ((k : ℕ) → k < n → c k ≡ d k) → tilesBelow n ch c ≡ tilesBelow n ch d
 unfolding tilesBelow
-tiles-ext zero sc on c d h = refl
-tiles-ext (suc n) sc on c d h = rw (h n (omega arith), tiles-ext n sc on c d (λ k l. h k (omega arith)))
+tiles-ext zero ch c d h = refl
+tiles-ext (suc n) ch c d h = rw (h n (omega arith), tiles-ext n ch c d (λ k l. h k (omega arith)))
 
 -- each kind's order along the lowest first is its order of the tiles
 pub turn-order : (k : Kind) (ts : List Tile) → turnOrder k (bottomFirst ts) ≡ order k ts

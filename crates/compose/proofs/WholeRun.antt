@@ -2,62 +2,87 @@
 use Prim.Native.Nat.{ℕ, _*_, _≤_}
 use mathlib.Core.Path.{_≡_, sym, ap, subst, _∙_}
 use mathlib.Core.List.{List, map}
-use mathlib.Core.Bool.{Bool}
+use mathlib.Core.Bool.{Bool, true, false}
 use lib.ListN.{length, take}
-use Rattle.format.specs.Scan.{Scan}
+use Rattle.format.specs.Scan.{scanOf}
 use Rattle.format.specs.Entry.{pixelBytes}
 use Rattle.format.specs.Directory.{tileCount}
 use Rattle.plane.specs.Paint.{ones}
 use Rattle.plane.specs.Tiles.{area}
-use Rattle.plane.specs.Turns.{Painting, Kind, quick, run, start, compose}
+use Rattle.plane.specs.Turns.{Painting, Kind, plain, quick, run, start, compose}
 use Rattle.plane.specs.Demand2.{Room}
 use Rattle.plane.proofs.PlaneLaws.{start-room}
 use Rattle.plane.proofs.RunLaws.{Kept, run-kept, room-kept}
 use Rattle.plane.proofs.Demand3.{demand3}
 use Rattle.plane.specs.declared.Rect.{Rect}
-use Rattle.tiles.specs.FileTile.{tilesBelow}
+use Rattle.turns.specs.Turned.{kindOf}
+use Rattle.blank.specs.Blank.{BackgroundFilled, Cleared}
+use Rattle.blank.proofs.Start.{started}
+use Rattle.tiles.specs.FileTile.{tilesBelow, paints}
 use Rattle.judge.proofs.AcceptedFile.{tiled}
 use Rattle.question.proofs.Ranks.{tiles-ranked}
-use Rattle.compose.specs.Steps.{chosenIn, Gathered, tileOfKey, turnOrder, RunRoom, RunDone, PlaneRoom, Begun}
+use Rattle.compose.specs.Steps.{chosenIn, Gathered, tileOfKey, turnOrder, RunRoom, RunDone, PlaneRoom, Begun, PlaneDone}
+use Rattle.compose.specs.declared.Counts.{Counts}
 use Rattle.compose.proofs.Along.{along}
 
-module _ (t m : List ℕ) (sc : Scan) (table background : List ℕ) (w : Rect) (pixel : ℕ) (p : PlaneRoom t m sc table background w pixel) (t₁ m₁ : List ℕ) (b : Begun t m background w pixel t₁ m₁) where
+-- the background and the zero map are the start
+pub begun : {t m background t′ m′ : List ℕ} (w : Rect) (pixel b : ℕ) → b ≡ pixelBytes pixel → BackgroundFilled t (area w) b background t′ → Cleared m (area w) m′
+    → Begun t m background w pixel t′ m′
+begun w pixel b e f c = record { start-is = started w (pixelBytes pixel) _ _ _ _ _ (rw e at f) c }
+
+module _ {t m bs table background : List ℕ} {w : Rect} {pixel : ℕ} {t₁ m₁ : List ℕ} where
   -- the start has room for the turns
-  begun-room : Room w (pixelBytes pixel) t₁ m₁
-  begun-room =
-      subst (λ (s : Painting). Room w (pixelBytes pixel) (s .target) (s .map)) (sym b)
+  begun-room : PlaneRoom t m (scanOf bs) table background w pixel → Begun t m background w pixel t₁ m₁ → Room w (pixelBytes pixel) t₁ m₁
+  begun-room p b =
+      subst (λ (s : Painting). Room w (pixelBytes pixel) (s .target) (s .map)) (sym (b .start-is))
       (start-room w (pixelBytes pixel) background t m (p .room))
 
-  module _ (n : ℕ) (e : n ≡ tileCount (sc .file)) (keys : List ℕ) (count : ℕ) (g : Gathered n (sc .file) table w keys count) where
-    pub run-room : RunRoom t₁ m₁ sc table keys count w pixel
-    run-room = record {
-      chosen = p .chosen;
-      gathered = rw e at g;
-      edges = p .edges;
-      room = begun-room;
-      small = p .small;
-      typed = p .typed;
-    }
+  pub run-room : (n : ℕ) {keys : List ℕ} {count : ℕ} → PlaneRoom t m (scanOf bs) table background w pixel → Begun t m background w pixel t₁ m₁
+      → n ≡ tileCount bs → Gathered n bs table w keys count → RunRoom t₁ m₁ (scanOf bs) table keys count w pixel
+  run-room n p b e g = record {
+    chosen = p .chosen;
+    gathered = rw e at g;
+    edges = p .edges;
+    room = begun-room p b;
+    small = p .small;
+    typed = p .typed;
+  }
 
-    module _ (k : Kind) (on : Bool) (t₂ m₂ : List ℕ) (stored : ℕ) (d : RunDone k t₁ m₁ sc keys count w pixel on t₂ m₂ stored) where
-      -- the map still has room, for its ones to be counted
-      pub map-room : area w ≤ 8 * length m₂
-      map-room =
-          room-kept w (pixelBytes pixel)
-          (subst (Kept w (pixelBytes pixel) (record { target = t₁; map = m₁; stored = 0 })) (sym d) (run-kept w (pixelBytes pixel) k _ _))
-          begun-room .map
+  module _ {keys : List ℕ} {count : ℕ} {t₂ m₂ : List ℕ} where
+    -- the map still has room, for its ones to be counted
+    pub map-room : {k : Kind} {on : Bool} {stored : ℕ} → PlaneRoom t m (scanOf bs) table background w pixel → Begun t m background w pixel t₁ m₁
+        → RunDone k t₁ m₁ (paints (scanOf bs) on) keys count w pixel t₂ m₂ stored → area w ≤ 8 * length m₂
+    map-room {k} p b d =
+        room-kept w (pixelBytes pixel)
+        (subst (Kept w (pixelBytes pixel) (record { target = t₁; map = m₁; stored = 0 })) (sym (d .run-is)) (run-kept w (pixelBytes pixel) k _ _))
+        (begun-room p b) .map
 
-      pub whole : _≡_ {A = Painting} (record { target = t₂; map = m₂; stored = stored })
-          (compose k w (pixelBytes pixel) background (tilesBelow (tileCount (sc .file)) sc on (chosenIn table)) t m)
-      whole =
-          d
-          ∙ ap (λ (s : Painting). run k w (pixelBytes pixel) (turnOrder k (map (tileOfKey sc on) (take count keys))) s) b
-          ∙ ap (λ (l : List ℕ). run k w (pixelBytes pixel) (turnOrder k (map (tileOfKey sc on) l)) (start w (pixelBytes pixel) background t m)) ((rw e at g) .keys-are)
-          ∙ along sc on table w k (pixelBytes pixel) background t m (tileCount (sc .file)) (tiled sc (p .chosen .accepted) .few) (p .room)
+    module _ (n : ℕ) {on : Bool} {stored : ℕ} (p : PlaneRoom t m (scanOf bs) table background w pixel) (b : Begun t m background w pixel t₁ m₁)
+        (e : n ≡ tileCount bs) (g : Gathered n bs table w keys count) where
+      whole : {k : Kind} → RunDone k t₁ m₁ (paints (scanOf bs) on) keys count w pixel t₂ m₂ stored
+          → _≡_ {A = Painting} (record { target = t₂; map = m₂; stored = stored })
+          (compose k w (pixelBytes pixel) background (tilesBelow (tileCount bs) (paints (scanOf bs) on) (chosenIn table)) t m)
+      whole {k} d =
+          d .run-is
+          ∙ ap (λ (s : Painting). run k w (pixelBytes pixel) (turnOrder k (map (tileOfKey (paints (scanOf bs) on)) (take count keys))) s) (b .start-is)
+          ∙ ap (λ (l : List ℕ). run k w (pixelBytes pixel) (turnOrder k (map (tileOfKey (paints (scanOf bs) on)) l)) (start w (pixelBytes pixel) background t m))
+          ((rw e at g) .keys-are)
+          ∙ along (paints (scanOf bs) on) table w k (pixelBytes pixel) background t m (tileCount bs) (tiled (scanOf bs) (p .chosen .accepted) .few) (p .room)
 
-    -- the quick composer's store count is the covered count
-    pub quick-covered : (on : Bool) (t₂ m₂ : List ℕ) (stored : ℕ) → RunDone quick t₁ m₁ sc keys count w pixel on t₂ m₂ stored → stored ≡ ones (area w) m₂
-    quick-covered on t₂ m₂ stored d =
-        let c = whole quick on t₂ m₂ stored d in
-        let q = demand3 (pixelBytes pixel) background (tilesBelow (tileCount (sc .file)) sc on (chosenIn table)) (tiles-ranked sc on (chosenIn table) (tileCount (sc .file)) (tiled sc (p .chosen .accepted) .few)) .quick-stores w t m (p .room) in
-        ap (λ (s : Painting). s .stored) c ∙ q ∙ ap (λ (s : Painting). ones (area w) (s .map)) (sym c)
+      -- the quick composer's store count is the covered count
+      pub quick-done : {q : Bool} → q ≡ true → RunDone quick t₁ m₁ (paints (scanOf bs) on) keys count w pixel t₂ m₂ stored
+          → PlaneDone (kindOf q) t m (paints (scanOf bs) on) table background w pixel t₂ m₂ (record { covered = stored; stored = stored })
+      quick-done h d =
+          let c = whole d in
+          let ranked = tiles-ranked (paints (scanOf bs) on) (chosenIn table) (tileCount bs) (tiled (scanOf bs) (p .chosen .accepted) .few) in
+          let stores = demand3 (pixelBytes pixel) background _ ranked .quick-stores w t m (p .room) in
+          rw h
+          (record {
+            painting = c;
+            covered-is = ap (λ (s : Painting). s .stored) c ∙ stores ∙ ap (λ (s : Painting). ones (area w) (s .map)) (sym c);
+          })
+
+      -- the plain one's covered count is the map's ones
+      pub plain-done : {q : Bool} (covered : ℕ) → q ≡ false → RunDone plain t₁ m₁ (paints (scanOf bs) on) keys count w pixel t₂ m₂ stored → covered ≡ ones (area w) m₂
+          → PlaneDone (kindOf q) t m (paints (scanOf bs) on) table background w pixel t₂ m₂ (record { covered = covered; stored = stored })
+      plain-done covered h d o = rw h (record { painting = whole d; covered-is = o })

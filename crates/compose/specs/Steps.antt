@@ -7,8 +7,9 @@ use lib.ListN.{length, getD, take}
 use lib.Dec.{eqb}
 use lib.IntN.{ℤ}
 use Rattle.format.specs.Scan.{Scan, scanOf}
+use Rattle.format.specs.Choice.{Choice}
 use Rattle.format.specs.Checks.{first}
-use Rattle.format.specs.Entry.{pixelType, pixelBytes, isPyramid}
+use Rattle.format.specs.Entry.{pixelType, pixelBytes, filePosition, isPyramid}
 use Rattle.format.specs.Directory.{tileCount, entryPlace}
 use Rattle.format.specs.Rules.{verdict}
 use Rattle.format.specs.declared.Verdict.{Verdict}
@@ -21,9 +22,10 @@ use Rattle.plane.specs.declared.Rect.{Rect}
 use Rattle.keys.specs.Keys.{insertKey, Rising}
 use Rattle.subblocks.specs.Judged.{Listed}
 use Rattle.tiles.specs.FileTile.{rankOf, rectangle, meets, fileTile, tilesBelow}
-use Rattle.selection.specs.Select.{selects}
-use Rattle.question.specs.Question.{askRows, agreeRows}
-use Rattle.question.specs.Call.{Asked, callVerdict}
+use Rattle.tiles.specs.Painted.{PaintRoom, Painted}
+use Rattle.selection.specs.Select.{chooses}
+use Rattle.question.specs.Question.{masksOn, requestWindow, askRows, agreeRows}
+use Rattle.question.specs.Call.{Asked, choiceOf, callVerdict}
 use Rattle.question.specs.declared.WindowRequest.{WindowRequest}
 use Rattle.compose.specs.declared.Counts.{Counts}
 
@@ -78,8 +80,21 @@ pub record Added (bs keys : List ℕ) (count k e : ℕ) (w : Rect) (keys′ : Li
 -- ---- turns
 
 -- the tile of a key: its entry number is the key's remainder by 4,096
-abbrev pub tileOfKey : Scan → Bool → ℕ → Tile
-tileOfKey sc on key = fileTile sc on (key % 4096)
+abbrev pub tileOfKey : Choice → ℕ → Tile
+tileOfKey ch key = fileTile ch (key % 4096)
+
+-- where its entry stands
+abbrev pub keyPlace : List ℕ → ℕ → ℕ
+keyPlace table key = getD table (key % 4096) 0
+
+-- what its turn may read and write, of the file bs
+pub record KeyRoom (t m bs table : List ℕ) (key : ℕ) (on : Bool) (w : Rect) : Type 0 where
+  pub size : length table ≡ 4096
+  pub paint : PaintRoom t m bs (keyPlace table key) bs (filePosition bs (keyPlace table key)) on w
+
+-- what its turn does
+pub record KeyPainted (t m bs table : List ℕ) (key : ℕ) (on : Bool) (w : Rect) (q : Bool) (t′ m′ : List ℕ) (r : ℕ) : Type 0 where
+  pub painted : Painted t m bs (keyPlace table key) bs (filePosition bs (keyPlace table key)) on w q t′ m′ r
 
 -- the tiles in the order of each kind's turns, along rising keys
 abbrev pub turnOrder : Kind → List Tile → List Tile
@@ -97,10 +112,9 @@ pub record RunRoom (t m : List ℕ) (sc : Scan) (table keys : List ℕ) (count :
   pub typed : (k : ℕ) → k < tileCount (sc .file) → takesTurn (sc .file) table w k ≡ true → pixelType (sc .file) (entryPlace (sc .file) k) ≡ pixel
 
 -- target, map and store count after the turns of these tiles, one after the other
-abbrev pub RunDone : Kind → (t m : List ℕ) (sc : Scan) (keys : List ℕ) → ℕ → Rect → ℕ → Bool → (t′ m′ : List ℕ) → ℕ → Type 0
-RunDone k t m sc keys count w pixel on t′ m′ r =
-    _≡_ {A = Painting} (record { target = t′; map = m′; stored = r })
-    (run k w (pixelBytes pixel) (turnOrder k (map (tileOfKey sc on) (take count keys))) (record { target = t; map = m; stored = 0 }))
+pub record RunDone (k : Kind) (t m : List ℕ) (ch : Choice) (keys : List ℕ) (count : ℕ) (w : Rect) (pixel : ℕ) (t′ m′ : List ℕ) (r : ℕ) : Type 0 where
+  pub run-is : _≡_ {A = Painting} (record { target = t′; map = m′; stored = r })
+      (run k w (pixelBytes pixel) (turnOrder k (map (tileOfKey ch) (take count keys))) (record { target = t; map = m; stored = 0 }))
 
 -- ---- the whole of painting an accepted selection
 
@@ -114,12 +128,12 @@ pub record PlaneRoom (t m : List ℕ) (sc : Scan) (table background : List ℕ) 
   pub typed : (k : ℕ) → k < tileCount (sc .file) → takesTurn (sc .file) table w k ≡ true → pixelType (sc .file) (entryPlace (sc .file) k) ≡ pixel
 
 -- the start: background, a zero map and a count of 0
-abbrev pub Begun : (t m background : List ℕ) → Rect → ℕ → (t′ m′ : List ℕ) → Type 0
-Begun t m background w pixel t′ m′ = _≡_ {A = Painting} (record { target = t′; map = m′; stored = 0 }) (start w (pixelBytes pixel) background t m)
+pub record Begun (t m background : List ℕ) (w : Rect) (pixel : ℕ) (t′ m′ : List ℕ) : Type 0 where
+  pub start-is : _≡_ {A = Painting} (record { target = t′; map = m′; stored = 0 }) (start w (pixelBytes pixel) background t m)
 
-pub record PlaneDone (k : Kind) (t m : List ℕ) (sc : Scan) (table background : List ℕ) (w : Rect) (pixel : ℕ) (on : Bool) (t′ m′ : List ℕ) (r : Counts) : Type 0 where
+pub record PlaneDone (k : Kind) (t m : List ℕ) (ch : Choice) (table background : List ℕ) (w : Rect) (pixel : ℕ) (t′ m′ : List ℕ) (r : Counts) : Type 0 where
   pub painting : _≡_ {A = Painting} (record { target = t′; map = m′; stored = r .stored })
-      (compose k w (pixelBytes pixel) background (tilesBelow (tileCount (sc .file)) sc on (chosenIn table)) t m)
+      (compose k w (pixelBytes pixel) background (tilesBelow (tileCount (ch .scan .file)) ch (chosenIn table)) t m)
   pub covered-is : r .covered ≡ ones (area w) m′
 
 -- ---- the whole of refusing: where it accepts, the table holds what the question's starts select
@@ -127,20 +141,23 @@ pub record PlaneDone (k : Kind) (t m : List ℕ) (sc : Scan) (table background :
 abbrev pub asked : List ℕ → List ℤ → Bool → WindowRequest → List ℕ → Asked
 asked bs starts anyScene f background = record { scan = scanOf bs; starts = starts; anyScene = anyScene; request = f; background = background }
 
+abbrev pub choice : List ℕ → List ℤ → Bool → WindowRequest → Choice
+choice bs starts anyScene f = record { scan = scanOf bs; starts = starts; anyScene = anyScene; masks = masksOn (f .masks) }
+
 -- the table chooses as the starts do
-pub record Selects (sc : Scan) (starts : List ℤ) (anyScene : Bool) (table : List ℕ) : Type 0 where
-  pub table-is : Chosen sc table
-  pub as-asked : (k : ℕ) → k < tileCount (sc .file) → chosenIn table k ≡ selects (sc .file) starts anyScene (entryPlace (sc .file) k)
+pub record Selects (ch : Choice) (table : List ℕ) : Type 0 where
+  pub table-is : Chosen (ch .scan) table
+  pub as-asked : (k : ℕ) → k < tileCount (ch .scan .file) → chosenIn table k ≡ chooses ch k
 
 -- the rows of 23, of 20 to 23, of all
-pub record AgreeAnswered (sc : Scan) (starts : List ℤ) (anyScene : Bool) (f : WindowRequest) (table : List ℕ) (r : Verdict) : Type 0 where
-  pub verdict-is : r ≡ first (agreeRows (sc .file) (λ k. selects (sc .file) starts anyScene (entryPlace (sc .file) k)) f)
-  pub selects-so : Selects sc starts anyScene table
+pub record AgreeAnswered (ch : Choice) (f : WindowRequest) (table : List ℕ) (r : Verdict) : Type 0 where
+  pub verdict-is : r ≡ first (agreeRows (ch .scan .file) (chooses ch) (requestWindow f) (f .«pixel_type»))
+  pub selects-so : Selects ch table
 
-pub record AskAnswered (sc : Scan) (starts : List ℤ) (anyScene : Bool) (f : WindowRequest) (background : List ℕ) (target map : ℕ) (table : List ℕ) (r : Verdict) : Type 0 where
-  pub verdict-is : r ≡ first (askRows f background target map ++ agreeRows (sc .file) (λ k. selects (sc .file) starts anyScene (entryPlace (sc .file) k)) f)
-  pub selects-so : r ≡ Accepted → Selects sc starts anyScene table
+pub record AskAnswered (ch : Choice) (f : WindowRequest) (background : List ℕ) (target map : ℕ) (table : List ℕ) (r : Verdict) : Type 0 where
+  pub verdict-is : r ≡ first (askRows f background target map ++ agreeRows (ch .scan .file) (chooses ch) (requestWindow f) (f .«pixel_type»))
+  pub selects-so : r ≡ Accepted → Selects ch table
 
 pub record ExamineAnswered (a : Asked) (target map : ℕ) (table : List ℕ) (r : Verdict) : Type 0 where
   pub verdict-is : r ≡ callVerdict a target map
-  pub selects-so : r ≡ Accepted → Selects (a .scan) (a .starts) (a .anyScene) table
+  pub selects-so : r ≡ Accepted → Selects (choiceOf a) table

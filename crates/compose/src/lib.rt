@@ -19,11 +19,11 @@ ghost use Rattle.plane.specs.Demand2.{Room};
 ghost use Rattle.format.specs.Rules.{verdict};
 ghost use Rattle.format.specs.declared.Verdict.the-variants.{Accepted};
 ghost use Rattle.turns.specs.Turned.{kindOf};
-ghost use Rattle.question.specs.Question.{typeBad, windowBad, requestWindow};
+ghost use Rattle.question.specs.Question.{typeBad, agreeRows, windowBad, requestWindow};
 ghost use Rattle.question.specs.Call.{Answered};
 ghost use Rattle.subblocks.specs.Judged.{Listed};
-ghost use Rattle.tiles.specs.Painted.{PaintRoom, Painted};
-ghost use Rattle.compose.specs.Steps.{chosenIn, Chosen, Edges, takesTurn, keysBelow, Gathered, AddRoom, Added, tileOfKey, RunRoom, RunDone, PlaneRoom, Begun, PlaneDone, asked, AgreeAnswered, AskAnswered, ExamineAnswered};
+ghost use Rattle.tiles.specs.FileTile.{paints};
+ghost use Rattle.compose.specs.Steps.{chosenIn, Chosen, Edges, Gathered, AddRoom, Added, KeyRoom, KeyPainted, RunRoom, RunDone, PlaneRoom, Begun, PlaneDone, asked, choice, AgreeAnswered, AskAnswered, ExamineAnswered};
 
 // The covered count and the store count of a plane that was painted.
 pub struct Counts {
@@ -46,14 +46,14 @@ fn disagrees(s: &[u8], e: u64, w: Rect, t: u64) -> bool
     if !tiles::meets_window(a, w) {
         return false;
     }
-    fields::u32_at(s, e + 2) != t
+    entries::pixel_type(s, e) != t
 }
 
 // Refusal 23 over the chosen entries below n, in directory order.
 fn agree(s: &[u8], table: &[u64; 4096], n: u64, w: Rect, t: u64) -> Verdict
     requires { ⌜ Chosen (scanOf (now s)) (now table) ⌝ }
     requires { ⌜ (n ≡ tileCount (now s)) × Edges w ⌝ }
-    ensures { λ r. ⌜ r ≡ first (rowsBelow n (λ k. row 23 (entryPlace (now (s .entry)) k) (cond (chosenIn (now (table .entry)) k) (typeBad (now (s .entry)) w t (entryPlace (now (s .entry)) k)) false) ∷ [])) ⌝ }
+    ensures { λ r. ⌜ r ≡ first (agreeRows (now (s .entry)) (chosenIn (now (table .entry))) w t) ⌝ }
 {
     let mut k: u64 = 0;
     while k < n {
@@ -117,12 +117,13 @@ fn paint_key(
     on: bool,
     quick: bool,
 ) -> usize
-    requires { ⌜ (length (now table) ≡ 4096) × PaintRoom (now target) (now map) (now s) (getD (now table) (key % 4096) 0) w ⌝ }
-    ensures { λ r. ⌜ Painted (now (target .entry)) (now (map .entry)) (now (s .entry)) on (getD (now (table .entry)) (key % 4096) 0) w quick (now (target .exit)) (now (map .exit)) r ⌝ }
+    requires { ⌜ KeyRoom (now target) (now map) (now s) (now table) key on w ⌝ }
+    ensures { λ r. ⌜ KeyPainted (now (target .entry)) (now (map .entry)) (now (s .entry)) (now (table .entry)) key on w quick (now (target .exit)) (now (map .exit)) r ⌝ }
 {
     let k = (key % 4096) as usize;
     let e = table[k];
-    tiles::paint_entry(target, map, s, e, w, on, quick)
+    let q = entries::file_position(s, e);
+    tiles::paint_entry(target, map, s, e, s, q, w, on, quick)
 }
 
 // The plain composer's turns over tiles of type t: bottom tile first, along rising keys. The result is the store count.
@@ -138,7 +139,7 @@ fn paint_up(
     on: bool,
 ) -> u64
     requires { ⌜ RunRoom (now target) (now map) (scanOf (now s)) (now table) (now keys) count w t ⌝ }
-    ensures { λ r. ⌜ RunDone plain (now (target .entry)) (now (map .entry)) (scanOf (now (s .entry))) (now (keys .entry)) count w t on (now (target .exit)) (now (map .exit)) r ⌝ }
+    ensures { λ r. ⌜ RunDone plain (now (target .entry)) (now (map .entry)) (paints (scanOf (now (s .entry))) on) (now (keys .entry)) count w t (now (target .exit)) (now (map .exit)) r ⌝ }
 {
     let mut stored: u64 = 0;
     let mut i: usize = 0;
@@ -163,7 +164,7 @@ fn paint_down(
     on: bool,
 ) -> u64
     requires { ⌜ RunRoom (now target) (now map) (scanOf (now s)) (now table) (now keys) count w t ⌝ }
-    ensures { λ r. ⌜ RunDone quick (now (target .entry)) (now (map .entry)) (scanOf (now (s .entry))) (now (keys .entry)) count w t on (now (target .exit)) (now (map .exit)) r ⌝ }
+    ensures { λ r. ⌜ RunDone quick (now (target .entry)) (now (map .entry)) (paints (scanOf (now (s .entry))) on) (now (keys .entry)) count w t (now (target .exit)) (now (map .exit)) r ⌝ }
 {
     let mut stored: u64 = 0;
     let mut i = count;
@@ -202,7 +203,7 @@ fn paint_plane(
     quick: bool,
 ) -> Counts
     requires { ⌜ PlaneRoom (now target) (now map) (scanOf (now s)) (now table) (now background) w t ⌝ }
-    ensures { λ r. ⌜ PlaneDone (kindOf quick) (now (target .entry)) (now (map .entry)) (scanOf (now (s .entry))) (now (table .entry)) (now (background .entry)) w t on (now (target .exit)) (now (map .exit)) r ⌝ }
+    ensures { λ r. ⌜ PlaneDone (kindOf quick) (now (target .entry)) (now (map .entry)) (paints (scanOf (now (s .entry))) on) (now (table .entry)) (now (background .entry)) w t (now (target .exit)) (now (map .exit)) r ⌝ }
 {
     begin(target, map, w, t, background);
     let n = judge::tile_count(s);
@@ -232,7 +233,7 @@ fn examine_tiles(
 ) -> Verdict
     requires { ⌜ (verdict (scanOf (now s)) ≡ Accepted) × (length (now table) ≡ 4096) ⌝ }
     requires { ⌜ windowBad (requestWindow f) ≡ false ⌝ }
-    ensures { λ r. ⌜ AgreeAnswered (scanOf (now (s .entry))) (now (starts .entry)) «any_scene» f (now (table .exit)) r ⌝ }
+    ensures { λ r. ⌜ AgreeAnswered (choice (now (s .entry)) (now (starts .entry)) «any_scene» f) f (now (table .exit)) r ⌝ }
 {
     let n = selection::select(s, starts, any_scene, table);
     let w = ask::window_of(f);
@@ -252,7 +253,7 @@ fn examine_question(
     table: &mut [u64; 4096],
 ) -> Verdict
     requires { ⌜ (verdict (scanOf (now s)) ≡ Accepted) × (length (now table) ≡ 4096) ⌝ }
-    ensures { λ r. ⌜ AskAnswered (scanOf (now (s .entry))) (now (starts .entry)) «any_scene» f (now (background .entry)) target map (now (table .exit)) r ⌝ }
+    ensures { λ r. ⌜ AskAnswered (choice (now (s .entry)) (now (starts .entry)) «any_scene» f) f (now (background .entry)) target map (now (table .exit)) r ⌝ }
 {
     let v = ask::ask(f, background, target, map);
     match v {

@@ -2,6 +2,7 @@
 pub mod Bytes
 pub mod Checks
 pub mod Scan
+pub mod Choice
 pub mod Names
 pub mod Segments
 pub mod File

@@ -5,7 +5,7 @@ use mathlib.Core.List.{List, _++_}
 use mathlib.Core.Bool.{false, cond}
 use borrow.Author.Tests.{ltb-false}
 use Rattle.format.specs.Scan.{Scan}
-use Rattle.format.specs.Checks.{first}
+use Rattle.format.specs.Checks.{Check, first}
 use Rattle.format.specs.Directory.{tileCount, entryPlace, directoryBad}
 use Rattle.format.specs.Rules.{checks, verdict}
 use Rattle.format.specs.declared.Verdict.the-variants.{Accepted}
@@ -26,26 +26,33 @@ pub record Accepts (a : Asked) (target map : ℕ) : Type 0 where
   pub agree : (k : ℕ) → k < tileCount (a .scan .file)
       → cond (chosen a k) (typeBad (a .scan .file) (askedWindow a) (a .request .«pixel_type») (entryPlace (a .scan .file) k)) false ≡ false
 
+-- the rows of 20, 21, 22, and those of 23
+abbrev asks : Asked → ℕ → ℕ → List Check
+asks a target map = askRows (a .request) (a .background) target map
+
+abbrev agrees : Asked → List Check
+agrees a = agreeRows (a .scan .file) (chosen a) (askedWindow a) (a .request .«pixel_type»)
+
 module _ (a : Asked) (target map : ℕ) where
   pub call-ok : callVerdict a target map ≡ Accepted → Accepts a target map
   unfolding callVerdict askRows
   call-ok e =
-      let whole = first-both (checks (a .scan)) (askRows (a .request) (a .background) target map ++ agreeRows (a .scan .file) (chosen a) (a .request)) e in
-      let asked = first-both (askRows (a .request) (a .background) target map) (agreeRows (a .scan .file) (chosen a) (a .request)) (whole .1) in
-      let g = passed (askRows (a .request) (a .background) target map) (asked .0) in
+      let whole = first-both (checks (a .scan)) (asks a target map ++ agrees a) e in
+      let asked = first-both (asks a target map) (agrees a) (whole .1) in
+      let g = passed (asks a target map) (asked .0) in
       record {
         file = whole .0;
         window = g 0;
         pixel = g 1;
         lent = g 2;
-        agree = agree-ok (a .scan .file) (chosen a) (a .request) (asked .1);
+        agree = agree-ok (a .scan .file) (chosen a) (askedWindow a) (a .request .«pixel_type») (asked .1);
       }
 
   pub call-accepted : Accepts a target map → callVerdict a target map ≡ Accepted
   unfolding callVerdict askRows
   call-accepted p =
       first-pass (checks (a .scan)) _ (p .file)
-      ∙ (rw (p .window, p .pixel, p .lent) (agree-accepted (a .scan .file) (chosen a) (a .request) (p .agree)))
+      ∙ (rw (p .window, p .pixel, p .lent) (agree-accepted (a .scan .file) (chosen a) (askedWindow a) (a .request .«pixel_type») (p .agree)))
 
 -- an accepted file has at most 4,096 entries
 pub few-tiles : (sc : Scan) → first (checks sc) ≡ Accepted → tileCount (sc .file) ≤ 4096

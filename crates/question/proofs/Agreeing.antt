@@ -14,27 +14,18 @@ use Rattle.format.proofs.Firsts.{passed, rows-each, rows-all}
 use Rattle.plane.specs.declared.Rect.{Rect}
 use Rattle.plane.specs.Cuts.{Meets}
 use Rattle.tiles.specs.FileTile.{rectangle, meets}
-use Rattle.question.specs.Question.{requestWindow, typeBad, agreeRows}
-use Rattle.question.specs.declared.WindowRequest.{WindowRequest}
+use Rattle.question.specs.Question.{typeBad, agreeRow, agreeRows}
 
 -- ---- all entries, and each
 
-module _ (bs : List ℕ) (chosen : ℕ → Bool) (f : WindowRequest) where
-  at : ℕ → Bool
-  at k = cond (chosen k) (typeBad bs (requestWindow f) (f .«pixel_type») (entryPlace bs k)) false
+module _ (bs : List ℕ) (chosen : ℕ → Bool) (w : Rect) (t : ℕ) where
+  pub agree-ok : first (agreeRows bs chosen w t) ≡ Accepted → (k : ℕ) → k < tileCount bs → cond (chosen k) (typeBad bs w t (entryPlace bs k)) false ≡ false
+  unfolding agreeRows
+  agree-ok e k h = passed (agreeRow bs chosen w t k) (rows-each (tileCount bs) k (agreeRow bs chosen w t) e h) 0
 
-  rows : ℕ → List Check
-  rows k = row 23 (entryPlace bs k) (at k) ∷ []
-
-  pub agree-ok : first (agreeRows bs chosen f) ≡ Accepted → (k : ℕ) → k < tileCount bs
-      → cond (chosen k) (typeBad bs (requestWindow f) (f .«pixel_type») (entryPlace bs k)) false ≡ false
-  unfolding agreeRows at rows
-  agree-ok e k h = passed (rows k) (rows-each (tileCount bs) k rows e h) 0
-
-  pub agree-accepted : ((k : ℕ) → k < tileCount bs → cond (chosen k) (typeBad bs (requestWindow f) (f .«pixel_type») (entryPlace bs k)) false ≡ false)
-      → first (agreeRows bs chosen f) ≡ Accepted
-  unfolding agreeRows at rows
-  agree-accepted g = rows-all (tileCount bs) rows (λ k h. rw (g k h))
+  pub agree-accepted : ((k : ℕ) → k < tileCount bs → cond (chosen k) (typeBad bs w t (entryPlace bs k)) false ≡ false) → first (agreeRows bs chosen w t) ≡ Accepted
+  unfolding agreeRows
+  agree-accepted g = rows-all (tileCount bs) (agreeRow bs chosen w t) (λ k h. rw (g k h))
 
 -- ---- the test is the fact
 

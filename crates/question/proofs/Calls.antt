@@ -15,7 +15,7 @@ use Rattle.plane.specs.Cuts.{Proper}
 use Rattle.plane.specs.Demand3 as Runs
 use Rattle.plane.proofs.Demand3.{demand3}
 use Rattle.question.specs.Question.{masksOn}
-use Rattle.question.specs.Call.{Asked, chosen, callVerdict, askedWindow, askedBytes, selected, painted, answer, targetAfter, mapAfter, coveredIn}
+use Rattle.question.specs.Call.{Asked, choiceOf, chosen, callVerdict, askedWindow, askedBytes, selected, painted, answer, targetAfter, mapAfter, coveredIn}
 use Rattle.question.specs.Demand3.{after}
 use Rattle.question.proofs.Ranks.{tiles-ranked}
 use Rattle.question.proofs.Asking.{window-ok, pixel-ok, lent-ok}
@@ -49,7 +49,7 @@ module _ (a : Asked) (t m : List ℕ) (e : callVerdict a (length t) (length m) �
   pub ranked : Ranked (selected a)
   unfolding selected
   ranked =
-      tiles-ranked (a .scan) (masksOn (a .request .masks)) (chosen a) (tileCount (a .scan .file))
+      tiles-ranked (choiceOf a) (chosen a) (tileCount (a .scan .file))
       (few-tiles (a .scan) (call-ok a (length t) (length m) e .file))
 
   pub runs : Runs.Demand3 (askedBytes a) (a .background) (selected a)

@@ -6,6 +6,7 @@ use mathlib.Core.List.{List, _∷_, List·Memᴰ, List·Memᴰ·not-nil, List·M
 use mathlib.Core.Bool.{Bool, true, false, cond}
 use native.Mathlib.Omega.{arith}
 use Rattle.format.specs.Scan.{Scan}
+use Rattle.format.specs.Choice.{Choice}
 use Rattle.format.specs.Bytes.{anyBelow, biased}
 use Rattle.format.specs.Entry.{dimensionCount, start, hasLetter, letterPlace}
 use Rattle.format.specs.Directory.{entryPlace}
@@ -21,45 +22,45 @@ rank-entry sc k e h = go (anyBelow (dimensionCount (sc .file) e) (hasLetter (sc 
     go true x = omega arith
     go false x = omega arith
 
-module _ (sc : Scan) (on : Bool) where
-  pub tile-rank : (k : ℕ) → k < 4096 → fileTile sc on k .rank % 4096 ≡ k
+module _ (ch : Choice) where
+  pub tile-rank : (k : ℕ) → k < 4096 → fileTile ch k .rank % 4096 ≡ k
   unfolding fileTile entryTile
-  tile-rank k h = rank-entry sc k (entryPlace (sc .file) k) h
+  tile-rank k h = rank-entry (ch .scan) k (entryPlace (ch .scan .file) k) h
 
   -- the tile is that of an entry below n
   pub record Entry (n : ℕ) (s : Tile) : Type 0 where
     pub number : ℕ
     pub below : number < n
-    pub tile : s ≡ fileTile sc on number
+    pub tile : s ≡ fileTile ch number
 
   later : {n : ℕ} {s : Tile} → Entry n s → Entry (suc n) s
   later i = record { number = i .number; below = omega (arith, i .below); tile = i .tile }
 
-module _ (sc : Scan) (on : Bool) (chosen : ℕ → Bool) where
-  pub tiles-entry : (n : ℕ) {s : Tile} → List·Memᴰ s (tilesBelow n sc on chosen) → Entry sc on n s
+module _ (ch : Choice) (chosen : ℕ → Bool) where
+  pub tiles-entry : (n : ℕ) {s : Tile} → List·Memᴰ s (tilesBelow n ch chosen) → Entry ch n s
   unfolding tilesBelow
   tiles-entry zero m = absurd (List·Memᴰ·not-nil m)
-  tiles-entry (suc n) {s} m = go (chosen n) (λ m. later sc on (tiles-entry n m)) m
+  tiles-entry (suc n) {s} m = go (chosen n) (λ m. later ch (tiles-entry n m)) m
     where
-      go : (b : Bool) → (List·Memᴰ s (tilesBelow n sc on chosen) → Entry sc on (suc n) s)
-          → List·Memᴰ s (cond b (fileTile sc on n ∷ tilesBelow n sc on chosen) (tilesBelow n sc on chosen)) → Entry sc on (suc n) s
+      go : (b : Bool) → (List·Memᴰ s (tilesBelow n ch chosen) → Entry ch (suc n) s)
+          → List·Memᴰ s (cond b (fileTile ch n ∷ tilesBelow n ch chosen) (tilesBelow n ch chosen)) → Entry ch (suc n) s
       go true lower m = ⊎-elim (λ e. record { number = n; below = omega arith; tile = e }) lower (List·Memᴰ·cases-cons m)
       go false lower m = lower m
 
   -- the tile of entry n has another rank than those of the entries below it
-  apart : (n : ℕ) → n < 4096 → (s : Tile) → List·Memᴰ s (tilesBelow n sc on chosen) → fileTile sc on n .rank ≡ s .rank → ⊥
+  apart : (n : ℕ) → n < 4096 → (s : Tile) → List·Memᴰ s (tilesBelow n ch chosen) → fileTile ch n .rank ≡ s .rank → ⊥
   apart n h s m e =
       let i = tiles-entry n m in
       let l : i .number < n = i .below in
       let q : n ≡ i .number =
-      sym (tile-rank sc on n h) ∙ ap (λ (r : ℕ). r % 4096) (e ∙ ap (λ (t : Tile). t .rank) (i .tile)) ∙ tile-rank sc on (i .number) (omega arith) in
+      sym (tile-rank ch n h) ∙ ap (λ (r : ℕ). r % 4096) (e ∙ ap (λ (t : Tile). t .rank) (i .tile)) ∙ tile-rank ch (i .number) (omega arith) in
       omega arith
 
-  pub tiles-ranked : (n : ℕ) → n ≤ 4096 → Ranked (tilesBelow n sc on chosen)
+  pub tiles-ranked : (n : ℕ) → n ≤ 4096 → Ranked (tilesBelow n ch chosen)
   unfolding tilesBelow
   tiles-ranked zero h = tt
   tiles-ranked (suc n) h = go (chosen n) (tiles-ranked n (omega arith))
     where
-      go : (b : Bool) → Ranked (tilesBelow n sc on chosen) → Ranked (cond b (fileTile sc on n ∷ tilesBelow n sc on chosen) (tilesBelow n sc on chosen))
+      go : (b : Bool) → Ranked (tilesBelow n ch chosen) → Ranked (cond b (fileTile ch n ∷ tilesBelow n ch chosen) (tilesBelow n ch chosen))
       go true r = (apart n (omega arith), r)
       go false r = r

@@ -6,9 +6,10 @@ use mathlib.Core.Bool.{Bool}
 use lib.ListN.{length}
 use lib.IntN.{ℤ}
 use Rattle.format.specs.Scan.{Scan}
+use Rattle.format.specs.Choice.{Choice}
 use Rattle.format.specs.Checks.{first, ifAccepted, numberOf, placeOf}
 use Rattle.format.specs.Entry.{pixelBytes}
-use Rattle.format.specs.Directory.{tileCount, entryPlace}
+use Rattle.format.specs.Directory.{tileCount}
 use Rattle.format.specs.Rules.{checks}
 use Rattle.format.specs.declared.Verdict.{Verdict}
 use Rattle.format.specs.declared.Verdict.the-variants as Is
@@ -16,7 +17,7 @@ use Rattle.plane.specs.Paint.{ones}
 use Rattle.plane.specs.Tiles.{Tile, area}
 use Rattle.plane.specs.Turns.{Painting, Kind, compose}
 use Rattle.plane.specs.declared.Rect.{Rect}
-use Rattle.selection.specs.Select.{selects}
+use Rattle.selection.specs.Select.{chooses}
 use Rattle.tiles.specs.FileTile.{tilesBelow}
 use Rattle.question.specs.Question.{masksOn, requestWindow, askRows, agreeRows}
 use Rattle.question.specs.declared.WindowRequest.{WindowRequest}
@@ -31,13 +32,17 @@ pub record Asked : Type 0 where
   pub request : WindowRequest
   pub background : List ℕ
 
+-- what of it chooses tiles and says how they are painted
+abbrev pub choiceOf : Asked → Choice
+choiceOf a = record { scan = a .scan; starts = a .starts; anyScene = a .anyScene; masks = masksOn (a .request .masks) }
+
 -- entry k is chosen: its tile is selected
 abbrev pub chosen : Asked → ℕ → Bool
-chosen a k = selects (a .scan .file) (a .starts) (a .anyScene) (entryPlace (a .scan .file) k)
+chosen a = chooses (choiceOf a)
 
 -- the refusals in their order: the file's own, then 20, 21, 22, then 23; of lent bytes of these lengths
 unfoldable pub callVerdict : Asked → ℕ → ℕ → Verdict
-callVerdict a target map = first (checks (a .scan) ++ (askRows (a .request) (a .background) target map ++ agreeRows (a .scan .file) (chosen a) (a .request)))
+callVerdict a target map = first (checks (a .scan) ++ (askRows (a .request) (a .background) target map ++ agreeRows (a .scan .file) (chosen a) (requestWindow (a .request)) (a .request .«pixel_type»)))
 
 -- the window, bytes a pixel, and the selected tiles
 abbrev pub askedWindow : Asked → Rect
@@ -47,7 +52,7 @@ abbrev pub askedBytes : Asked → ℕ
 askedBytes a = pixelBytes (a .request .«pixel_type»)
 
 unfoldable pub selected : Asked → List Tile
-selected a = tilesBelow (tileCount (a .scan .file)) (a .scan) (masksOn (a .request .masks)) (chosen a)
+selected a = tilesBelow (tileCount (a .scan .file)) (choiceOf a) (chosen a)
 
 -- the composer's whole run over the lent bytes t and m
 abbrev pub painted : Kind → Asked → List ℕ → List ℕ → Painting

@@ -59,10 +59,13 @@ askRows f background target map =
 
 -- ---- agree
 
--- refusal 23 at entry k: chosen, meets the window, and has another type
+-- refusal 23 at an entry: it meets the window and has another type
 unfoldable pub typeBad : List ℕ → Rect → ℕ → ℕ → Bool
 typeBad bs w t e = cond (meets (rectangle bs e) w) (not (eqb (pixelType bs e) t)) false
 
-unfoldable pub agreeRows : List ℕ → (ℕ → Bool) → WindowRequest → List Check
-agreeRows bs chosen f =
-    rowsBelow (tileCount bs) (λ k. row 23 (entryPlace bs k) (cond (chosen k) (typeBad bs (requestWindow f) (f .«pixel_type») (entryPlace bs k)) false) ∷ [])
+-- at entry k, where it is chosen
+abbrev pub agreeRow : List ℕ → (ℕ → Bool) → Rect → ℕ → ℕ → List Check
+agreeRow bs chosen w t k = row 23 (entryPlace bs k) (cond (chosen k) (typeBad bs w t (entryPlace bs k)) false) ∷ []
+
+unfoldable pub agreeRows : List ℕ → (ℕ → Bool) → Rect → ℕ → List Check
+agreeRows bs chosen w t = rowsBelow (tileCount bs) (agreeRow bs chosen w t)

@@ -7,6 +7,8 @@ use lib.ListN.{getD}
 use lib.Dec.{eqb}
 use lib.IntN.{ℤ, pos}
 use Rattle.format.specs.Bytes.{anyOf, anyBelow, allBelow, biased, shifted}
+use Rattle.format.specs.Choice.{Choice}
+use Rattle.format.specs.Records.{tileEntry}
 use Rattle.format.specs.Entry.{dimensionCount, start, hasLetter, letterPlace, isPyramid}
 
 -- the question's start for the letter x (65 to 90), plus 2 ^ 31
@@ -28,3 +30,7 @@ startsThere bs e starts anyScene x = cond (free anyScene x) true (eqb (tileStart
 -- a selected tile: no pyramid tile, and each other letter but M starts where the question says
 unfoldable pub selects : List ℕ → List ℤ → Bool → ℕ → Bool
 selects bs starts anyScene e = cond (isPyramid bs e) false (allBelow 26 (λ i. startsThere bs e starts anyScene (65 + i)))
+
+-- entry k of the scan is chosen
+abbrev pub chooses : Choice → ℕ → Bool
+chooses ch k = selects (ch .scan .file) (ch .starts) (ch .anyScene) (tileEntry (ch .scan) k)

@@ -28,13 +28,13 @@ y-in {ds} {e} d l h = omega (arith, l .entry, dimensions-ok ds e (l .dimensions)
 
 -- ---- bounds
 
-pub record Edges (a : Rect) : Type 0 where
+pub record Bounded (a : Rect) : Type 0 where
   pub right : a .left + a .width < 2 ^ 32
   pub bottom : a .top + a .height < 2 ^ 32
   pub wide : 1 ≤ a .width
   pub high : 1 ≤ a .height
 
-pub rectangle-edges : (bs : List ℕ) (e : ℕ) → Listed bs e → Edges (rectangle bs e)
+pub rectangle-edges : (bs : List ℕ) (e : ℕ) → Listed bs e → Bounded (rectangle bs e)
 unfolding rectangle
 rectangle-edges bs e l =
     let p = dimensions-ok bs e (l .dimensions) in
@@ -47,7 +47,8 @@ pub rectangle-is : (ds : List ℕ) (e x y left top width height : ℕ) → x ≡
 unfolding rectangle
 rectangle-is ds e x y left top width height a b c d f g = rw (c, d, f, g, a, b)
 
-pub read-edges : (bs : List ℕ) (e : ℕ) (a : Rect) → Listed bs e → a ≡ rectangle bs e → Edges a
+-- of the rectangle that was read
+pub read-edges : (bs : List ℕ) (e : ℕ) (a : Rect) → Listed bs e → a ≡ rectangle bs e → Bounded a
 read-edges bs e a l h = rw h (rectangle-edges bs e l)
 
 -- ---- two rectangles that meet, and two that do not

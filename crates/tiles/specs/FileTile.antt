@@ -2,11 +2,12 @@
 -- A plane coordinate is the signed number plus 2 ^ 31.
 use Prim.Native.Nat.{ℕ, zero, suc, _+_, _-_, _*_}
 use mathlib.Core.List.{List, [], _∷_}
-use mathlib.Core.Bool.{Bool, true, cond, not, _&&_, _||_}
+use mathlib.Core.Bool.{Bool, true, false, cond, not, _&&_, _||_}
 use lib.ListN.{getD}
 use lib.Dec.{ltb}
 use Rattle.format.specs.Bytes.{anyBelow, biased}
 use Rattle.format.specs.Scan.{Scan}
+use Rattle.format.specs.Choice.{Choice}
 use Rattle.format.specs.Entry.{pixelType, pixelBytes, dimensionCount, start, size, hasLetter, letterPlace}
 use Rattle.format.specs.SubBlock.{pixelsPlace}
 use Rattle.format.specs.Masks.{maskValid}
@@ -54,10 +55,14 @@ entryTile ds on k e bs q = record {
 }
 
 -- the tile of entry k of a scan
-unfoldable pub fileTile : Scan → Bool → ℕ → Tile
-fileTile sc on k = entryTile (sc .file) on k (tileEntry sc k) (tileFile sc k) (tilePosition sc k)
+unfoldable pub fileTile : Choice → ℕ → Tile
+fileTile ch k = entryTile (ch .scan .file) (ch .masks) k (tileEntry (ch .scan) k) (tileFile (ch .scan) k) (tilePosition (ch .scan) k)
 
 -- the tiles of the chosen entries below n
-unfoldable pub tilesBelow : ℕ → Scan → Bool → (ℕ → Bool) → List Tile
-tilesBelow zero sc on chosen = []
-tilesBelow (suc n) sc on chosen = cond (chosen n) (fileTile sc on n ∷ tilesBelow n sc on chosen) (tilesBelow n sc on chosen)
+unfoldable pub tilesBelow : ℕ → Choice → (ℕ → Bool) → List Tile
+tilesBelow zero ch chosen = []
+tilesBelow (suc n) ch chosen = cond (chosen n) (fileTile ch n ∷ tilesBelow n ch chosen) (tilesBelow n ch chosen)
+
+-- a choice by what painting reads of it: the starts only select
+abbrev pub paints : Scan → Bool → Choice
+paints sc on = record { scan = sc; starts = []; anyScene = false; masks = on }

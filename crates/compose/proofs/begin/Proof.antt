@@ -1,10 +1,9 @@
 -- `compose::begin` meets its contract.
 use native.Mathlib.Omega.{arith}
 use mathlib.Core.Path.{sym, _∙_}
-use Rattle.format.specs.Entry.{pixelBytes}
-use Rattle.entries.proofs.EntryLaws.{pixel-bytes-few}
-use Rattle.blank.proofs.Start.{started}
 use borrow.Author.Needs.{needs}
+use Rattle.entries.proofs.EntryLaws.{pixel-bytes-few}
+use Rattle.compose.proofs.WholeRun.{begun}
 use Rattle.compose.proofs.begin.Statement.{statement}
 use Rattle.compose.proofs.begin.Tie as tie
 
@@ -12,12 +11,12 @@ fill-requires : tie.Need-fill-requires
 fill-requires c κs =
     let k = c .before .before .before .before .before .before in
     let e = c .before .pixel-bytes .ensures in
-    record { bytes = rw e (k .pre .0 .bytes); small = rw e (omega (arith, pixel-bytes-few (k .args .t))); target = rw e (k .pre .0 .target); pixel = k .pre .1 .1 ∙ sym e }
-
-returns : tie.Need-returns
-returns c =
-    let k = c .before .before .before .before .before .before .before .before .before .before .before .before .before in
-    started ((k .args .w)) (pixelBytes (k .args .t)) _ _ _ _ _ (rw (c .before .before .before .before .before .before .before .before .pixel-bytes .ensures) at (c .before .before .before .before .before .before .fill .ensures)) (c .before .before .clear .ensures)
+    record {
+      bytes = rw e (k .pre .0 .bytes);
+      small = rw e (omega (arith, pixel-bytes-few (k .args .t)));
+      target = rw e (k .pre .0 .target);
+      pixel = k .pre .1 .1 ∙ sym e;
+    }
 
 pub begin-spec : {M : Type 1} → statement M
 begin-spec =
@@ -29,4 +28,4 @@ begin-spec =
     (λ c κs. search needs)
     (λ c. search needs)
     (λ c. search needs)
-    returns)
+    (λ c. search begun))

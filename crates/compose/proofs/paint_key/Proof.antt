@@ -1,0 +1,17 @@
+-- `compose::paint_key` meets its contract.
+use borrow.Author.Needs.{needs}
+use Rattle.compose.proofs.Running.{key-entry, key-paints, key-painted}
+use Rattle.compose.proofs.paint_key.Statement.{statement}
+use Rattle.compose.proofs.paint_key.Tie as tie
+
+pub paint-key-spec : {M : Type 1} → statement M
+paint-key-spec =
+    tie.close
+    (tie.spec
+    (λ c. search needs)
+    (λ c. search needs)
+    (λ c κs. search key-entry)
+    (λ c κs. search key-paints)
+    (λ c. search needs)
+    (λ c. search needs)
+    (λ c. search key-painted))
