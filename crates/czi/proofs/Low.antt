@@ -2,24 +2,24 @@
 use Prim.Native.Nat.{ℕ, zero, suc, _≤_}
 use mathlib.Core.Path.{_≡_, refl}
 use mathlib.Core.List.{List, [], _∷_, _++_}
-use mathlib.Core.Bool.{Bool, true, false, cond, _&&_, _||_}
+use mathlib.Core.Bool.{Bool, true, false, cond, _&&_, _||_, and-assoc}
 use native.Mathlib.Omega.{arith}
 use lib.ListN.{length}
 use lib.Dec.{eqb, leb, ltb}
 use borrow.Author.Tests.{leb-true}
 use Rattle.format.specs.Scan.{scanOf}
-use Rattle.format.specs.Checks.{Check, row, first, rowsBelow, andThen, numberOf}
-use Rattle.format.specs.Segments.{nextSegment, lengthBad, segmentRows, walkRows, segmentsRows}
-use Rattle.format.specs.File.{directoryPosition, metadataPosition, attachmentDirectoryPosition, fileRows}
-use Rattle.format.specs.Entry.{filePosition, dimensionCount}
+use Rattle.format.specs.Checks.{Check, first, rowsBelow, numberOf}
+use Rattle.format.specs.Segments.{nextSegment, segmentRows, walkRows, segmentsRows}
+use Rattle.format.specs.File.{attachmentDirectoryPosition, fileRows}
+use Rattle.format.specs.Entry.{filePosition}
 use Rattle.format.specs.Masks.{hasChunks, isMask, nextChunk, chunkRows, chunksRows}
-use Rattle.format.specs.Directory.{tileCount, entryPlace, directoryBad, headRows, tileRows, subBlockRows, attachmentRows, entryRows, directoryRows}
-use Rattle.format.specs.Attachments.{metadataBad, metadataRows, attachmentEntryCount, attachmentEntry, attachmentDirectoryBad, attachmentCount, attachmentEntryRows, attachmentDirectoryRows, attachmentsRows}
+use Rattle.format.specs.Directory.{tileCount, entryPlace, headRows, tileRows, subBlockRows, attachmentRows, entryRows, directoryRows}
+use Rattle.format.specs.Attachments.{metadataRows, attachmentEntryCount, attachmentEntryRows, attachmentDirectoryRows, attachmentsRows}
 use Rattle.format.specs.Rules.{checks, verdict, tileVerdict, attachmentVerdict}
 use Rattle.format.specs.Records.{dimensionVerdict}
-use Rattle.format.specs.Answers.{VerdictAnswered, SpanAnswered, TileAnswered, DimensionAnswered, spanVerdict, tileVerdictIn, dimensionVerdictIn}
+use Rattle.format.specs.Answers.{VerdictAnswered, SpanAnswered, TileAnswered, DimensionAnswered, spanVerdict, dimensionVerdictIn}
 use Rattle.format.specs.declared.Verdict.{Verdict}
-use Rattle.format.specs.declared.Verdict.the-variants.{Accepted, Refused}
+use Rattle.format.specs.declared.Verdict.the-variants.{Refused}
 use Rattle.format.specs.declared.Span.{Span}
 use Rattle.format.specs.declared.SpanAnswer.{SpanAnswer}
 use Rattle.format.specs.declared.Tile.{Tile}
@@ -32,177 +32,119 @@ use Rattle.listing.specs.declared.Summary.{Summary}
 use Rattle.listing.specs.declared.SummaryAnswer.{SummaryAnswer}
 use Rattle.plane.specs.Turns.{Kind}
 use Rattle.question.specs.Question.{askRows, agreeRows}
-use Rattle.question.specs.Call.{Asked, chosen, callVerdict, answerIf, answer, numberIn}
-use Rattle.question.specs.declared.WindowRequest.{WindowRequest}
+use Rattle.question.specs.Call.{Asked, callVerdict, Answered, numberIn}
 use Rattle.question.specs.declared.Composed.{Composed}
 use Rattle.format.proofs.Below.{and-both}
-use Rattle.format.proofs.Firsts.{first-append}
-
--- the first refusal of these rows has such a number
-record Low (cs : List Check) : Type 0 where
-  low : numberOf (first cs) ≤ 30
-
--- ---- lists of rows
 
 -- every row has such a number: of rows that are written out this computes
 lows : List Check → Bool
 lows [] = true
 lows (c ∷ cs) = leb (c .number) 30 && lows cs
 
-low-all : (cs : List Check) → lows cs ≡ true → Low cs
+low : (cs : List Check) → lows cs ≡ true → numberOf (first cs) ≤ 30
 unfolding lows
-low-all [] e = record { low = omega arith }
-low-all (c ∷ cs) e = let both = and-both (leb (c .number) 30) (lows cs) e in record { low = go (c .given) (leb-true _ _ (both .0)) (low-all cs (both .1)) }
+low [] e = omega arith
+low (c ∷ cs) e = let both = and-both (leb (c .number) 30) (lows cs) e in go (c .given) (leb-true _ _ (both .0)) (low cs (both .1))
   where
-    go : (t : Bool) → c .number ≤ 30 → Low cs → numberOf (cond t (Refused (c .number) (c .place)) (first cs)) ≤ 30
+    go : (t : Bool) → c .number ≤ 30 → numberOf (first cs) ≤ 30 → numberOf (cond t (Refused (c .number) (c .place)) (first cs)) ≤ 30
     go true h k = h
-    go false h k = k .low
+    go false h k = k
 
-none : Low []
-none = record { low = omega arith }
+lows-append : (a b : List Check) → lows (a ++ b) ≡ (lows a && lows b)
+unfolding lows
+lows-append [] b = refl
+lows-append (c ∷ cs) b = simp (lows-append cs b, and-assoc)
 
-low-then : (v w : Verdict) → numberOf v ≤ 30 → numberOf w ≤ 30 → numberOf (andThen v w) ≤ 30
-low-then Accepted w h k = k
-low-then (Refused n p) w h k = h
+lows-either : (t : Bool) (a b : List Check) → lows a ≡ true → lows b ≡ true → lows (cond t a b) ≡ true
+lows-either true a b h k = h
+lows-either false a b h k = k
 
-low-append : (a b : List Check) → Low a → Low b → Low (a ++ b)
-low-append a b h k = record { low = rw (first-append a b) (low-then (first a) (first b) (h .low) (k .low)) }
-
-low-either : (t : Bool) (a b : List Check) → Low a → Low b → Low (cond t a b)
-low-either true a b h k = h
-low-either false a b h k = k
-
-low-below : (n : ℕ) (f : ℕ → List Check) → ((i : ℕ) → Low (f i)) → Low (rowsBelow n f)
-unfolding rowsBelow
-low-below zero f h = none
-low-below (suc n) f h = low-append (rowsBelow n f) (f n) (low-below n f h) (h n)
+lows-below : (n : ℕ) (f : ℕ → List Check) → ((i : ℕ) → lows (f i) ≡ true) → lows (rowsBelow n f) ≡ true
+unfolding rowsBelow lows
+lows-below zero f h = refl
+lows-below (suc n) f h = simp (lows-append, lows-below n f h, h n)
 
 -- ---- the rows of a file
 
 module _ (bs : List ℕ) where
-  walk-low : (n p : ℕ) → Low (walkRows n bs p)
+  walk-lows : (n p : ℕ) → lows (walkRows n bs p) ≡ true
   unfolding walkRows segmentRows lows
-  walk-low zero p = low-all (walkRows zero bs p) refl
-  walk-low (suc n) p = low-either (ltb p (length bs)) _ [] (low-append (segmentRows bs p) _ (low-all (segmentRows bs p) refl) (walk-low n (nextSegment bs p))) none
+  walk-lows zero p = refl
+  walk-lows (suc n) p = lows-either (ltb p (length bs)) _ [] (walk-lows n (nextSegment bs p)) refl
 
-  segments-low : Low (segmentsRows bs)
-  unfolding segmentsRows lows
-  segments-low = low-append (row 1 0 (lengthBad bs) ∷ []) (walkRows 8192 bs 0) (low-all (row 1 0 (lengthBad bs) ∷ []) refl) (walk-low 8192 0)
-
-  file-low : Low (fileRows bs)
-  unfolding fileRows lows
-  file-low = low-all (fileRows bs) refl
-
-  chunks-low : (n end : ℕ) (seen : Bool) (c : ℕ) → Low (chunksRows n bs end seen c)
+  chunks-lows : (n end : ℕ) (seen : Bool) (c : ℕ) → lows (chunksRows n bs end seen c) ≡ true
   unfolding chunksRows chunkRows lows
-  chunks-low zero end seen c = none
-  chunks-low (suc n) end seen c = low-either (ltb c end) _ [] (low-append (chunkRows bs end seen c) _ (low-all (chunkRows bs end seen c) refl) (chunks-low n end (seen || isMask bs c) (nextChunk bs c))) none
+  chunks-lows zero end seen c = refl
+  chunks-lows (suc n) end seen c = lows-either (ltb c end) _ [] (chunks-lows n end (seen || isMask bs c) (nextChunk bs c)) refl
 
-  attachment-low : (ds : List ℕ) (e q : ℕ) → Low (attachmentRows ds e bs q)
-  unfolding attachmentRows
-  attachment-low ds e q = low-either (hasChunks ds e bs q) _ [] (chunks-low _ _ false _) none
+  entry-lows : (d e : ℕ) → lows (entryRows (scanOf bs) d e) ≡ true
+  unfolding entryRows headRows tileRows subBlockRows attachmentRows lows
+  entry-lows d e = lows-either (hasChunks bs e bs (filePosition bs e)) _ [] (chunks-lows _ _ false _) refl
 
-  entry-low : (d e : ℕ) → Low (entryRows (scanOf bs) d e)
-  unfolding entryRows headRows tileRows subBlockRows lows
-  entry-low d e =
-      let q = filePosition bs e in
-      low-append (headRows bs d e) _ (low-all (headRows bs d e) refl)
-      (low-append (tileRows (scanOf bs) e) _ (low-all (tileRows (scanOf bs) e) refl)
-      (low-append (subBlockRows bs e bs q) _ (low-all (subBlockRows bs e bs q) refl)
-      (attachment-low bs e q)))
-
-  directory-low : Low (directoryRows (scanOf bs))
+  directory-lows : lows (directoryRows (scanOf bs)) ≡ true
   unfolding directoryRows lows
-  directory-low =
-      let d = directoryPosition bs in
-      low-append (row 10 d (directoryBad bs d) ∷ []) _ (low-all (row 10 d (directoryBad bs d) ∷ []) refl)
-      (low-below (tileCount bs) _ (λ k. entry-low d (entryPlace bs k)))
+  directory-lows = lows-below (tileCount bs) _ (λ k. entry-lows _ (entryPlace bs k))
 
-  metadata-low : Low (metadataRows bs)
-  unfolding metadataRows lows
-  metadata-low =
-      let m = metadataPosition bs in
-      low-either (eqb m 0) [] _ none (low-all (row 10 m (metadataBad bs m) ∷ []) refl)
-
-  attachments-low : Low (attachmentsRows bs)
+  attachments-lows : lows (attachmentsRows bs) ≡ true
   unfolding attachmentsRows attachmentDirectoryRows attachmentEntryRows lows
-  attachments-low =
+  attachments-lows =
       let t = attachmentDirectoryPosition bs in
-      low-either (eqb t 0) [] _ none
-      (low-append (row 10 t (attachmentDirectoryBad bs t) ∷ []) _ (low-all (row 10 t (attachmentDirectoryBad bs t) ∷ []) refl)
-      (low-below (attachmentEntryCount bs t) _ (λ k. low-all (attachmentEntryRows bs (attachmentEntry t k)) refl)))
+      lows-either (eqb t 0) [] _ refl (lows-below (attachmentEntryCount bs t) _ (λ k. refl))
 
-  checks-low : Low (checks (scanOf bs))
-  unfolding checks
-  checks-low =
-      low-append (segmentsRows bs) _ segments-low
-      (low-append (fileRows bs) _ file-low
-      (low-append (directoryRows (scanOf bs)) _ directory-low
-      (low-append (metadataRows bs) _ metadata-low attachments-low)))
+  checks-lows : lows (checks (scanOf bs)) ≡ true
+  unfolding checks segmentsRows fileRows metadataRows lows
+  checks-lows = simp (lows-append, walk-lows 8192 0, directory-lows, lows-either, attachments-lows)
+
+  -- with further rows of such numbers
+  checks-then : (cs : List Check) → lows cs ≡ true → numberOf (first (checks (scanOf bs) ++ cs)) ≤ 30
+  checks-then cs e = low (checks (scanOf bs) ++ cs) (simp (lows-append, checks-lows, e))
 
 -- ---- what is asked
 
 module _ (bs : List ℕ) where
   pub verdict-low : numberOf (verdict (scanOf bs)) ≤ 30
   unfolding verdict
-  verdict-low = checks-low bs .low
+  verdict-low = low _ (checks-lows bs)
 
   pub tile-low : (n : ℕ) → numberOf (tileVerdict (scanOf bs) n) ≤ 30
   unfolding tileVerdict lows
-  tile-low n = low-append (checks (scanOf bs)) _ (checks-low bs) (low-all (row 24 0 (leb (tileCount bs) n) ∷ []) refl) .low
+  tile-low n = checks-then bs _ refl
 
   pub attachment-verdict-low : (n : ℕ) → numberOf (attachmentVerdict (scanOf bs) n) ≤ 30
   unfolding attachmentVerdict lows
-  attachment-verdict-low n = low-append (checks (scanOf bs)) _ (checks-low bs) (low-all (row 24 0 (leb (attachmentCount bs) n) ∷ []) refl) .low
+  attachment-verdict-low n = checks-then bs _ refl
 
   pub dimension-low : (n k : ℕ) → numberOf (dimensionVerdict (scanOf bs) n k) ≤ 30
   unfolding dimensionVerdict lows
-  dimension-low n k =
-      low-append (checks (scanOf bs)) _ (checks-low bs)
-      (low-all (row 24 0 (leb (tileCount bs) n) ∷ row 24 0 (leb (dimensionCount bs (entryPlace bs n)) k) ∷ []) refl)
-      .low
+  dimension-low n k = checks-then bs _ refl
 
 -- ---- the verdict v that an answer about w has
 
-pub answered-low : {v w : Verdict} → VerdictAnswered w v → numberOf w ≤ 30 → numberOf v ≤ 30
-answered-low a h = rw (a .number-is) h
+module _ {v w : Verdict} where
+  pub answered-low : VerdictAnswered w v → numberOf w ≤ 30 → numberOf v ≤ 30
+  answered-low a h = rw (a .number-is) h
 
-pub span-low : {w : Verdict} {s : Span} {a : SpanAnswer} {v : Verdict} → SpanAnswered w s a → v ≡ spanVerdict a → numberOf w ≤ 30 → numberOf v ≤ 30
-span-low a e h = rw (e, a .number-is) h
+  pub span-low : {s : Span} {a : SpanAnswer} → SpanAnswered w s a → v ≡ spanVerdict a → numberOf w ≤ 30 → numberOf v ≤ 30
+  span-low a e h = rw (e, a .number-is) h
 
-pub dimension-in-low : {w : Verdict} {d : Dimension} {a : DimensionAnswer} {v : Verdict} → DimensionAnswered w d a → v ≡ dimensionVerdictIn a → numberOf w ≤ 30 → numberOf v ≤ 30
-dimension-in-low a e h = rw (e, a .number-is) h
+  pub dimension-in-low : {d : Dimension} {a : DimensionAnswer}
+      → DimensionAnswered w d a → v ≡ dimensionVerdictIn a → numberOf w ≤ 30 → numberOf v ≤ 30
+  dimension-in-low a e h = rw (e, a .number-is) h
 
-pub summary-low : {w : Verdict} {s : Summary} {a : SummaryAnswer} {v : Verdict} → SummaryAnswered w s a → v ≡ summaryVerdict a → numberOf w ≤ 30 → numberOf v ≤ 30
-summary-low a e h = rw (e, a .number-is) h
+  pub summary-low : {s : Summary} {a : SummaryAnswer} → SummaryAnswered w s a → v ≡ summaryVerdict a → numberOf w ≤ 30 → numberOf v ≤ 30
+  summary-low a e h = rw (e, a .number-is) h
 
 -- of a tile's answer, which is the refusal m at p
-pub tile-in-low : {w : Verdict} {t : Tile} {a : TileAnswer} {m p : ℕ} → TileAnswered w t a → a ≡ TileIs.Refused m p → numberOf w ≤ 30 → m ≤ 30
+pub tile-in-low : {w : Verdict} {t : Tile} {a : TileAnswer} {m p : ℕ}
+    → TileAnswered w t a → a ≡ TileIs.Refused m p → numberOf w ≤ 30 → m ≤ 30
 tile-in-low a e h = rw (← a .number-is, e) at h
 
 -- ---- what a composer is asked
 
-ask-low : (f : WindowRequest) (background : List ℕ) (target map : ℕ) → Low (askRows f background target map)
-unfolding askRows lows
-ask-low f background target map = low-all (askRows f background target map) refl
-
-agree-low : (bs : List ℕ) (chosen : ℕ → Bool) (f : WindowRequest) → Low (agreeRows bs chosen f)
-unfolding agreeRows lows
-agree-low bs chosen f = low-below (tileCount bs) _ (λ k. low-all _ refl)
-
 call-low : (a : Asked) (target map : ℕ) → numberOf (callVerdict a target map) ≤ 30
-unfolding callVerdict
-call-low a target map =
-    low-append (checks (a .scan)) _ (checks-low (a .scan .file))
-    (low-append (askRows (a .request) (a .background) target map) _ (ask-low (a .request) (a .background) target map)
-    (agree-low (a .scan .file) (chosen a) (a .request)))
-    .low
-
-answer-if-low : (v : Verdict) (covered stored : ℕ) → numberOf v ≤ 30 → numberIn (answerIf v covered stored) ≤ 30
-answer-if-low Accepted covered stored h = h
-answer-if-low (Refused n p) covered stored h = h
+unfolding callVerdict askRows agreeRows lows
+call-low a target map = checks-then (a .scan .file) _ (lows-below (tileCount (a .scan .file)) _ (λ k. refl))
 
 -- a composer's answer r
-pub answer-low : (k : Kind) (a : Asked) (t m : List ℕ) (r : Composed) → r ≡ answer k a t m → numberIn r ≤ 30
-unfolding answer
-answer-low k a t m r e = rw e (answer-if-low (callVerdict a (length t) (length m)) _ _ (call-low a (length t) (length m)))
+pub answer-low : {k : Kind} {a : Asked} {t m t′ m′ : List ℕ} {r : Composed} → Answered k a t m t′ m′ r → numberIn r ≤ 30
+answer-low {a = a} {t = t} {m = m} h = rw (h .number-is) (call-low a (length t) (length m))

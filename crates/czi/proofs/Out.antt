@@ -1,5 +1,5 @@
 -- From what was answered to the library's own functions to what is given to C. Assumes nothing.
-use Prim.Native.Nat.{ℕ, _-_, _^_, _<_}
+use Prim.Native.Nat.{ℕ, _^_, _<_}
 use mathlib.Core.Path.{_≡_, refl, ap, _∙_}
 use mathlib.Core.List.{List}
 use mathlib.Core.Bool.{Bool}
@@ -41,64 +41,51 @@ use Rattle.czi.specs.declared.figures.BoxNumbers.{BoxNumbers}
 
 module _ {v w : Verdict} {number place : ℕ} (n : number ≡ numberOf v) (p : place ≡ placeOf v) where
   pub verdict-out : VerdictAnswered w v → VerdictOut w number place
-  verdict-out a = record { number-is = n ∙ a .number-is; place-is = p ∙ a .place-is }
+  verdict-out a = record { number-is = cc; place-is = cc }
 
-  pub span-out : {s x : Span} {a : SpanAnswer} → SpanAnswered w s a → v ≡ spanVerdict a → x ≡ spanIn a → SpanOut w s number place (x .start) (x .length)
-  span-out a e f =
-      let g = f ∙ a .span-is in
-      record { number-is = n ∙ (ap numberOf e ∙ a .number-is); place-is = p ∙ (ap placeOf e ∙ a .place-is); start-is = ap (λ y. y .start) g; length-is = ap (λ y. y .length) g }
+  pub span-out : {s x : Span} {a : SpanAnswer} → SpanAnswered w s a → v ≡ spanVerdict a → x ≡ spanIn a
+      → SpanOut w s number place (x .start) (x .length)
+  span-out a e f = record { number-is = cc; place-is = cc; start-is = cc; length-is = cc }
 
-  pub dimension-out : {d x : Dimension} {a : DimensionAnswer} {start : ℤ} → DimensionAnswered w d a → v ≡ dimensionVerdictIn a → x ≡ dimensionIn a → start ≡ x .start
+  pub dimension-out : {d x : Dimension} {a : DimensionAnswer} {start : ℤ}
+      → DimensionAnswered w d a → v ≡ dimensionVerdictIn a → x ≡ dimensionIn a → start ≡ x .start
       → DimensionOut w d number place (x .letter) start (x .size) (x .«coordinate_bits») (x .stored)
   dimension-out a e f z =
-      let g = f ∙ a .dimension-is in
-      record {
-        number-is = n ∙ (ap numberOf e ∙ a .number-is);
-        place-is = p ∙ (ap placeOf e ∙ a .place-is);
-        letter-is = ap (λ y. y .letter) g;
-        start-is = z ∙ ap (λ y. y .start) g;
-        size-is = ap (λ y. y .size) g;
-        bits-are = ap (λ y. y .«coordinate_bits») g;
-        stored-is = ap (λ y. y .stored) g;
-      }
+      record { number-is = cc; place-is = cc; letter-is = cc; start-is = cc; size-is = cc; bits-are = cc; stored-is = cc }
 
-  pub summary-out : {s x : Summary} {a : SummaryAnswer} {b : BoxNumbers} {left top right bottom : ℤ} → SummaryAnswered w s a → v ≡ summaryVerdict a → x ≡ summaryIn a → b ≡ boxNumbers (x .bounds)
+  pub summary-out : {s x : Summary} {a : SummaryAnswer} {b : BoxNumbers} {left top right bottom : ℤ}
+      → SummaryAnswered w s a → v ≡ summaryVerdict a → x ≡ summaryIn a → b ≡ boxNumbers (x .bounds)
       → left ≡ b .left → top ≡ b .top → right ≡ b .right → bottom ≡ b .bottom
       → SummaryOut w s number place (x .bytes) (x .segments) (x .tiles) (x .attachments) (b .some) left top right bottom
   summary-out a e f g hl ht hr hb =
-      let h = f ∙ a .summary-is in
-      let k = g ∙ ap (λ y. boxNumbers (y .bounds)) h in
       record {
-        number-is = n ∙ (ap numberOf e ∙ a .number-is);
-        place-is = p ∙ (ap placeOf e ∙ a .place-is);
-        bytes-are = ap (λ y. y .bytes) h;
-        segments-are = ap (λ y. y .segments) h;
-        tiles-are = ap (λ y. y .tiles) h;
-        attachments-are = ap (λ y. y .attachments) h;
-        box-is = ap (λ y. y .some) k;
-        left-is = hl ∙ ap (λ y. y .left) k;
-        top-is = ht ∙ ap (λ y. y .top) k;
-        right-is = hr ∙ ap (λ y. y .right) k;
-        bottom-is = hb ∙ ap (λ y. y .bottom) k;
+        number-is = cc;
+        place-is = cc;
+        bytes-are = cc;
+        segments-are = cc;
+        tiles-are = cc;
+        attachments-are = cc;
+        box-is = cc;
+        left-is = cc;
+        top-is = cc;
+        right-is = cc;
+        bottom-is = cc;
       }
 
--- ---- a tile record: by cases of the answer a
+-- ---- a tile record: by cases of the verdict w about which the answer a is
 
-tile-refused : (w : Verdict) (t : Tile) (m q : ℕ) (numbers : List ℕ) (starts : List ℤ) → TileAnswered w t (TileIs.Refused m q) → TileOut w t numbers starts m q numbers starts
-tile-refused Accepted t m q numbers starts a = let z : _≡_ {A = ℕ} 0 1 = cc (a .answer-is) in absurd (omega arith)
-tile-refused (Refused n p) t m q numbers starts a = record { number-is = a .number-is; place-is = a .place-is; numbers-are = refl; starts-are = refl }
+module _ {t : Tile} {a : TileAnswer} {numbers : List ℕ} {starts : List ℤ} where
+  pub tile-refused-out : {w : Verdict} {m q number place : ℕ}
+      → TileAnswered w t a → a ≡ TileIs.Refused m q → number ≡ numberOf (Refused m q) → place ≡ placeOf (Refused m q)
+      → TileOut w t numbers starts number place numbers starts
+  tile-refused-out {w = Accepted} h e n p = let z : _≡_ {A = ℕ} 0 1 = cc in absurd (omega arith)
+  tile-refused-out {w = Refused k l} h e n p = record { number-is = cc; place-is = cc; numbers-are = refl; starts-are = refl }
 
-pub tile-refused-out : {w : Verdict} {t : Tile} {a : TileAnswer} {m q : ℕ} {numbers : List ℕ} {starts : List ℤ} {number place : ℕ}
-    → TileAnswered w t a → a ≡ TileIs.Refused m q → number ≡ numberOf (Refused m q) → place ≡ placeOf (Refused m q) → TileOut w t numbers starts number place numbers starts
-tile-refused-out a e n p = rw (n, p) (tile-refused _ _ _ _ _ _ (rw e at a))
-
-tile-found : (w : Verdict) (t u : Tile) (numbers₀ numbers : List ℕ) (starts₀ starts : List ℤ) → TileAnswered w t (TileIs.Found u) → numbers ≡ tileNumbers u → starts ≡ tileStarts u → TileOut w t numbers₀ starts₀ 0 0 numbers starts
-tile-found Accepted t u numbers₀ numbers starts₀ starts a n s = record { number-is = refl; place-is = refl; numbers-are = n ∙ ap tileNumbers (a .tile-is); starts-are = s ∙ ap tileStarts (a .tile-is) }
-tile-found (Refused m p) t u numbers₀ numbers starts₀ starts a n s = let z : _≡_ {A = ℕ} 0 1 = cc (a .answer-is) in absurd (omega arith)
-
-pub tile-found-out : {w : Verdict} {t u : Tile} {a : TileAnswer} {numbers₀ numbers : List ℕ} {starts₀ starts : List ℤ}
-    → TileAnswered w t a → a ≡ TileIs.Found u → numbers ≡ tileNumbers u → starts ≡ tileStarts u → TileOut w t numbers₀ starts₀ 0 0 numbers starts
-tile-found-out a e n s = tile-found _ _ _ _ _ _ _ (rw e at a) n s
+  pub tile-found-out : {w : Verdict} {u : Tile} {numbers₀ : List ℕ} {starts₀ : List ℤ}
+      → TileAnswered w t a → a ≡ TileIs.Found u → numbers ≡ tileNumbers u → starts ≡ tileStarts u
+      → TileOut w t numbers₀ starts₀ 0 0 numbers starts
+  tile-found-out {w = Accepted} h e n s = record { number-is = refl; place-is = refl; numbers-are = cc; starts-are = cc }
+  tile-found-out {w = Refused k l} h e n s = let z : _≡_ {A = ℕ} 0 1 = cc in absurd (omega arith)
 
 -- ---- the text
 
@@ -109,23 +96,18 @@ text-out t l c e =
 
 -- ---- a plane
 
--- left and top are handed on as their bits
-pub request-back : (type : ℕ) (left top : ℤ) (width height masks : ℕ) → mag left < 2 ^ 31 → mag top < 2 ^ 31
-    → requestOf type (toZ w32 (ofZ w32 left)) (toZ w32 (ofZ w32 top)) width height masks ≡ requestOf type left top width height masks
-request-back type left top width height masks l t = rw (read-back left l, read-back top t)
+-- the request f that was made of these numbers: left and top are handed on as their bits
+pub request-back : {f : WindowRequest} {type : ℕ} {left top : ℤ} {width height : ℕ} (masks : ℕ)
+    → f ≡ requestOf type (toZ w32 (ofZ w32 left)) (toZ w32 (ofZ w32 top)) width height masks
+    → mag left < 2 ^ 31 → mag top < 2 ^ 31 → f ≡ requestOf type left top width height masks
+request-back {left = left} {top = top} masks e l t = e ∙ rw (read-back left l, read-back top t)
 
 -- what a composer answered about the request f, said of g
-pub plane-out : (k : Kind) (bs : List ℕ) (starts : List ℤ) (any : Bool) (f g : WindowRequest) (background t m t′ m′ : List ℕ) (r : Composed) (number place covered stored : ℕ)
+pub plane-out : {k : Kind} {bs : List ℕ} {starts : List ℤ} {any : Bool} {f g : WindowRequest}
+    {background t m t′ m′ : List ℕ} {r : Composed} {number place covered stored : ℕ}
     → Answered k (asked bs starts any f background) t m t′ m′ r → f ≡ g
     → number ≡ numberIn r → place ≡ placeIn r → covered ≡ coveredIn r → stored ≡ storedIn r
     → PlaneOut k (asked bs starts any g background) t m t′ m′ number place covered stored
-plane-out k bs starts any f g background t m t′ m′ r number place covered stored h e en ep ec es =
+plane-out h e en ep ec es =
     rw (← e)
-    (record {
-      number-is = en ∙ ap numberIn (h .answer-is);
-      place-is = ep ∙ ap placeIn (h .answer-is);
-      covered-is = ec ∙ ap coveredIn (h .answer-is);
-      stored-is = es ∙ ap storedIn (h .answer-is);
-      target-is = h .target-is;
-      map-is = h .map-is;
-    })
+    (record { number-is = cc; place-is = cc; covered-is = cc; stored-is = cc; target-is = h .target-is; map-is = h .map-is })

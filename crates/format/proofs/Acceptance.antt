@@ -1,5 +1,5 @@
 -- A file is accepted exactly when it is well formed (demand 2). Assumes nothing.
-use mathlib.Core.Path.{_≡_, _∙_}
+use mathlib.Core.Path.{_≡_}
 use mathlib.Core.Logic.{_↔_}
 use Rattle.format.specs.Checks.{first}
 use Rattle.format.specs.Scan.{Scan}
@@ -10,10 +10,11 @@ use Rattle.format.specs.Attachments.{metadataRows, attachmentsRows}
 use Rattle.format.specs.Rules.{checks, verdict}
 use Rattle.format.specs.WellFormed.{WellFormed}
 use Rattle.format.specs.declared.Verdict.the-variants.{Accepted}
-use Rattle.format.proofs.Firsts.{first-both, first-pass}
+use Rattle.format.proofs.Firsts.{first-append, first-both}
 use Rattle.format.proofs.SegmentLaws.{walked-places}
 use Rattle.format.proofs.Walk.{segments-chain, chain-segments}
-use Rattle.format.proofs.FileRows.{file-ok, file-accepted, directory-ok, directory-accepted, metadata-ok, metadata-accepted, attachments-ok, attachments-accepted}
+use Rattle.format.proofs.FileRows.{Fields, file-ok, file-accepted, directory-ok, directory-accepted}
+use Rattle.format.proofs.FileRows.{metadata-ok, metadata-accepted, attachments-ok, attachments-accepted}
 
 -- the five parts of the rules
 pub record Parts (sc : Scan) : Type 0 where
@@ -34,12 +35,7 @@ verdict-parts sc e =
 
 pub parts-verdict : (sc : Scan) → Parts sc → verdict sc ≡ Accepted
 unfolding verdict checks
-parts-verdict sc p =
-    first-pass (segmentsRows (sc .file)) _ (p .segments) ∙
-    (first-pass (fileRows (sc .file)) _ (p .file) ∙
-    (first-pass (directoryRows sc) _ (p .directory) ∙
-    (first-pass (metadataRows (sc .file)) _ (p .metadata) ∙
-    p .attachments)))
+parts-verdict sc p = simp (first-append, p .segments, p .file, p .directory, p .metadata) (p .attachments)
 
 well-formed : (sc : Scan) → Parts sc → WellFormed sc
 well-formed sc p =
@@ -72,9 +68,17 @@ parts sc w =
     let e = segments-walked sc w in
     let m = metadata-accepted (sc .file) (rw e (w .metadata)) in
     let a = attachments-accepted (sc .file) (rw e (w .attachments)) in
+    let f : Fields (sc .file) = record {
+      major-right = w .major-right;
+      part = w .part;
+      settled = w .settled;
+      directory = rw e (w .names-directory);
+      metadata = m .0;
+      attachments = a .0;
+    } in
     record {
       segments = chain-segments (sc .file) (w .segments) (w .length-right) (w .tile) (w .segment) (w .few) .0;
-      file = file-accepted (sc .file) (record { major-right = w .major-right; part = w .part; settled = w .settled; directory = rw e (w .names-directory); metadata = m .0; attachments = a .0 });
+      file = file-accepted (sc .file) f;
       directory = directory-accepted sc (w .directory) (rw e (w .entries));
       metadata = m .1;
       attachments = a .1;

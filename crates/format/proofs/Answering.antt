@@ -1,6 +1,6 @@
 -- How an answer that is an enum comes about: by a verdict w, which was answered as v. Assumes nothing.
 use Prim.Native.Nat.{ℕ}
-use mathlib.Core.Path.{_≡_, refl, ap, sym, _∙_}
+use mathlib.Core.Path.{_≡_, ap, sym, _∙_}
 use Rattle.format.specs.Checks.{numberOf, placeOf}
 use Rattle.format.specs.Records.{spanIf}
 use Rattle.format.specs.Answers.{VerdictAnswered, SpanAnswered, TileAnswered, DimensionAnswered}
@@ -21,19 +21,19 @@ module _ {v w : Verdict} (a : VerdictAnswered w v) where
   accepted h = sym (a .answer-is) ∙ h
 
   pub span-refused : (s : Span) {m p : ℕ} → v ≡ Refused m p → SpanAnswered w (spanIf w s) (SpanIs.Refused m p)
-  span-refused s h = rw (← a .answer-is, h) (record { verdict-is = refl; number-is = refl; place-is = refl; span-is = refl })
+  span-refused s h = rw (← a .answer-is, h) (search)
 
   pub span-found : {s r : Span} → v ≡ Accepted → r ≡ s → SpanAnswered w (spanIf w s) (SpanIs.Found r)
-  span-found h k = rw (← a .answer-is, h) (record { verdict-is = refl; number-is = refl; place-is = refl; span-is = k })
+  span-found h k = rw (← a .answer-is, h) (search)
 
   pub tile-refused : {t : Tile} {m p : ℕ} → v ≡ Refused m p → TileAnswered w t (TileIs.Refused m p)
-  tile-refused h = rw (← a .answer-is, h) (record { answer-is = refl; number-is = refl; place-is = refl; tile-is = refl })
+  tile-refused h = rw (← a .answer-is, h) (search)
 
   pub tile-found : {t r : Tile} → v ≡ Accepted → r ≡ t → TileAnswered w t (TileIs.Found r)
-  tile-found h k = rw (← a .answer-is, h) (record { answer-is = ap TileIs.Found k; number-is = refl; place-is = refl; tile-is = k })
+  tile-found h k = rw (← a .answer-is, h) (search)
 
   pub dimension-refused : {d : Dimension} {m p : ℕ} → v ≡ Refused m p → DimensionAnswered w d (DimensionIs.Refused m p)
-  dimension-refused h = rw (← a .answer-is, h) (record { answer-is = refl; number-is = refl; place-is = refl; dimension-is = refl })
+  dimension-refused h = rw (← a .answer-is, h) (search)
 
   pub dimension-found : {d r : Dimension} → v ≡ Accepted → r ≡ d → DimensionAnswered w d (DimensionIs.Found r)
-  dimension-found h k = rw (← a .answer-is, h) (record { answer-is = ap DimensionIs.Found k; number-is = refl; place-is = refl; dimension-is = k })
+  dimension-found h k = rw (← a .answer-is, h) (search)

@@ -12,6 +12,10 @@ use Rattle.format.specs.Bytes.{anyOf, anyBelow, allBelow, leastBelow}
 
 -- ---- bools
 
+pub by-bool {ℓ} : {P : Type ℓ} (b : Bool) → (b ≡ true → P) → (b ≡ false → P) → P
+by-bool true f g = f refl
+by-bool false f g = g refl
+
 pub or-none : (a b : Bool) → (a || b) ≡ false → (a ≡ false) × (b ≡ false)
 or-none true b e = absurd (true≢false e)
 or-none false b e = (refl, e)
@@ -27,6 +31,11 @@ none [] e i = refl
 none (t ∷ ts) e zero = or-none t (anyOf ts) e .0
 none (t ∷ ts) e (suc i) = none ts (or-none t (anyOf ts) e .1) i
 
+-- ---- a number below n + 1 is n, or below n
+
+pub last-or {ℓ} : (P : ℕ → Type ℓ) {n i : ℕ} → i < suc n → P n → (i < n → P i) → P i
+last-or P h p q = ⊎-elim (λ e. rw e p) q (eq-or-lt-of-le (le-of-suc-le-suc h))
+
 -- ---- some number below n
 
 pub any-zero : (t : ℕ → Bool) → anyBelow 0 t ≡ false
@@ -41,17 +50,10 @@ pub any-found : (n i : ℕ) (t : ℕ → Bool) → i < n → t i ≡ true → an
 unfolding anyBelow
 any-found zero i t h e = absurd (omega arith)
 any-found (suc n) i t h e =
-    ⊎-elim
-    (λ q. let f : t n ≡ true = rw (← q) e in rw f (or-true (anyBelow n t)))
-    (λ l. rw (any-found n i t l e))
-    (eq-or-lt-of-le (le-of-suc-le-suc h))
+    last-or (λ i. t i ≡ true → anyBelow (suc n) t ≡ true) h (λ f. rw f (or-true (anyBelow n t))) (λ l f. rw (any-found n i t l f)) e
 
 pub any-none : (n i : ℕ) (t : ℕ → Bool) → anyBelow n t ≡ false → i < n → t i ≡ false
-any-none n i t e h = go (t i) refl
-  where
-    go : (b : Bool) → t i ≡ b → t i ≡ false
-    go true f = absurd (true≢false (sym (any-found n i t h f) ∙ e))
-    go false f = f
+any-none n i t e h = by-bool (t i) (λ f. absurd (true≢false (sym (any-found n i t h f) ∙ e))) (λ f. f)
 
 pub any-intro : (n : ℕ) (t : ℕ → Bool) → ((i : ℕ) → i < n → t i ≡ false) → anyBelow n t ≡ false
 unfolding anyBelow
@@ -72,17 +74,10 @@ pub all-fails : (n i : ℕ) (t : ℕ → Bool) → i < n → t i ≡ false → a
 unfolding allBelow
 all-fails zero i t h e = absurd (omega arith)
 all-fails (suc n) i t h e =
-    ⊎-elim
-    (λ q. let f : t n ≡ false = rw (← q) e in rw f (and-false (allBelow n t)))
-    (λ l. rw (all-fails n i t l e))
-    (eq-or-lt-of-le (le-of-suc-le-suc h))
+    last-or (λ i. t i ≡ false → allBelow (suc n) t ≡ false) h (λ f. rw f (and-false (allBelow n t))) (λ l f. rw (all-fails n i t l f)) e
 
 pub all-at : (n i : ℕ) (t : ℕ → Bool) → allBelow n t ≡ true → i < n → t i ≡ true
-all-at n i t e h = go (t i) refl
-  where
-    go : (b : Bool) → t i ≡ b → t i ≡ true
-    go true f = f
-    go false f = absurd (true≢false (sym e ∙ all-fails n i t h f))
+all-at n i t e h = by-bool (t i) (λ f. f) (λ f. absurd (true≢false (sym e ∙ all-fails n i t h f)))
 
 pub all-intro : (n : ℕ) (t : ℕ → Bool) → ((i : ℕ) → i < n → t i ≡ true) → allBelow n t ≡ true
 unfolding allBelow
@@ -95,10 +90,8 @@ pub least-found : (n i : ℕ) (t : ℕ → Bool) → i < n → anyBelow i t ≡ 
 unfolding leastBelow
 least-found zero i t h e f = absurd (omega arith)
 least-found (suc n) i t h e f =
-    ⊎-elim
-    (λ q. let a : anyBelow n t ≡ false = rw (← q) e in let b : t n ≡ true = rw (← q) f in rw (a, b) (sym q))
-    (λ l. rw (any-found n i t l f) (least-found n i t l e f))
-    (eq-or-lt-of-le (le-of-suc-le-suc h))
+    last-or (λ i. anyBelow i t ≡ false → t i ≡ true → leastBelow (suc n) t ≡ i) h (λ a b. rw (a, b))
+    (λ l a b. rw (any-found n i t l b) (least-found n i t l a b)) e f
 
 pub least-none : (n : ℕ) (t : ℕ → Bool) → anyBelow n t ≡ false → leastBelow n t ≡ n
 unfolding leastBelow
@@ -116,11 +109,6 @@ pub record Least (n : ℕ) (t : ℕ → Bool) : Type 0 where
 pub least-is : (n : ℕ) (t : ℕ → Bool) → anyBelow n t ≡ true → Least n t
 unfolding anyBelow leastBelow
 least-is zero t e = absurd (true≢false (sym e))
-least-is (suc n) t e = go (anyBelow n t) refl (t n) refl e (λ a. least-is n t a)
-  where
-    go : (a : Bool) → anyBelow n t ≡ a → (b : Bool) → t n ≡ b → (a || b) ≡ true → (anyBelow n t ≡ true → Least n t) → Least (suc n) t
-    go true ea b eb e ih =
-        let l = ih ea in
-        record { below = rw ea (omega (arith, l .below)); holds = rw ea (l .holds) }
-    go false ea true eb e ih = record { below = rw (ea, eb) (omega arith); holds = rw (ea, eb) eb }
-    go false ea false eb e ih = absurd (true≢false (sym e))
+least-is (suc n) t e =
+    by-bool (anyBelow n t) (λ a. let l = least-is n t a in record { below = rw a (omega (arith, l .below)); holds = rw a (l .holds) })
+    (λ a. by-bool (t n) (λ b. record { below = rw (a, b) (omega arith); holds = rw (a, b) b }) (λ b. absurd (true≢false (sym e ∙ rw (a, b)))))

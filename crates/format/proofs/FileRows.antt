@@ -1,43 +1,114 @@
--- The rows of the file segment, and of the three segments that it names, accept exactly where those are well formed. Assumes nothing.
+-- The rows of the file segment, of the three segments that it names and of their entries accept exactly where those are well formed. Assumes nothing.
 use Prim.Native.Nat.{ℕ, _<_}
 use mathlib.Core.Path.{_≡_, refl}
 use mathlib.Core.Logic.{_⊎_, inl, inr, ⊎-elim}
 use mathlib.Core.List.{List, [], _∷_}
-use mathlib.Core.Bool.{Bool, true, false, cond, not}
+use mathlib.Core.Bool.{true, false, cond}
 use lib.Dec.{eqb}
-use borrow.Author.Tests.{eq-eqb, eqb-true, not-false}
+use borrow.Author.Tests.{le-ltb, ltb-false, eq-eqb, ne-eqb, eqb-true, eqb-false, not-false}
 use Rattle.format.specs.Names.{nameDirectory, nameMetadata, nameAttachmentDirectory}
 use Rattle.format.specs.Checks.{Check, row, first, rowsBelow}
-use Rattle.format.specs.Scan.{Scan}
-use Rattle.format.specs.Segments.{walked, walkedAs}
-use Rattle.format.specs.File.{major, filePart, updatePending, directoryPosition, metadataPosition, attachmentDirectoryPosition, namesNone, namesNoneBut0, fileRows}
-use Rattle.format.specs.Directory.{tileCount, entryPlace, directoryBad, entryRows, directoryRows}
-use Rattle.format.specs.Attachments.{metadataBad, metadataRows, attachmentDirectoryBad, attachmentEntryCount, attachmentEntry, attachmentEntryRows, attachmentDirectoryRows, attachmentsRows}
-use Rattle.format.specs.WellFormed.{Names, Entry, AttachmentEntry, AttachmentDirectory}
+use Rattle.format.specs.Scan.{Scan, blockFile}
+use Rattle.format.specs.Segments.{walked}
+use Rattle.format.specs.File.{major, filePart, updatePending, directoryPosition, metadataPosition, attachmentDirectoryPosition}
+use Rattle.format.specs.File.{namesNone, namesNoneBut0, fileRows}
+use Rattle.format.specs.Entry.{filePosition}
+use Rattle.format.specs.SubBlock.{attachmentSize, attachmentPlace}
+use Rattle.format.specs.Masks.{hasChunks}
+use Rattle.format.specs.Directory.{tileCount, entryPlace, directoryBad, headRows, tileRows, subBlockRows, attachmentRows, entryRows, directoryRows}
+use Rattle.format.specs.Attachments.{metadataBad, metadataRows, attachmentDirectoryBad, attachmentEntryCount, attachmentEntry}
+use Rattle.format.specs.Attachments.{attachmentEntryRows, attachmentDirectoryRows, attachmentsRows}
+use Rattle.format.specs.WellFormed.{ChunksFill, Names, Entry, AttachmentEntry, AttachmentDirectory}
 use Rattle.format.specs.declared.Verdict.the-variants.{Accepted}
-use Rattle.format.proofs.Firsts.{first-passed, passed, rows-each, rows-all}
+use Rattle.format.proofs.Below.{by-bool}
+use Rattle.format.proofs.Firsts.{first-passed, passed, passed-rest, rows-each, rows-all}
 use Rattle.format.proofs.SegmentLaws.{names-ok, names-accepted}
-use Rattle.format.proofs.EntryRows.{entry-ok, entry-accepted, attachment-entry-ok, attachment-entry-accepted}
+use Rattle.format.proofs.ChunkWalk.{chunks-ok, chunks-accepted}
+
+-- ---- a sub-block's attachment
+
+module _ (ds : List ℕ) (e : ℕ) (bs : List ℕ) (q : ℕ) where
+  container-ok : first (attachmentRows ds e bs q) ≡ Accepted → hasChunks ds e bs q ≡ true → ChunksFill ds e bs q
+  unfolding attachmentRows
+  container-ok a c = chunks-ok bs (attachmentSize bs q) (attachmentPlace ds e bs q) (rw c at a)
+
+  container-accepted : (hasChunks ds e bs q ≡ true → ChunksFill ds e bs q) → first (attachmentRows ds e bs q) ≡ Accepted
+  unfolding attachmentRows
+  container-accepted h =
+      by-bool (hasChunks ds e bs q) (λ c. rw c (chunks-accepted bs (attachmentSize bs q) (attachmentPlace ds e bs q) (h c))) (λ c. rw c)
+
+-- ---- an entry DV
+
+module _ (sc : Scan) (d e : ℕ) where
+  entry-ok : first (entryRows sc d e) ≡ Accepted → Entry sc (walked (blockFile sc e)) d e
+  unfolding entryRows headRows tileRows subBlockRows
+  entry-ok x =
+      let g = passed (entryRows sc d e) x in
+      record {
+        head-fits = ltb-false _ _ (g 0);
+        head = g 1;
+        fits = ltb-false _ _ (g 2);
+        dimensions = g 3;
+        listed = eqb-false _ _ (g 4);
+        uncompressed = eqb-true _ _ (not-false _ (g 5));
+        part = eqb-true _ _ (not-false _ (g 6));
+        names = names-ok (blockFile sc e) _ _ (not-false _ (g 7));
+        block = g 8;
+        contents = g 9;
+        container = container-ok (sc .file) e (blockFile sc e) (filePosition (sc .file) e) (passed-rest (entryRows sc d e) x 10);
+      }
+
+  entry-accepted : Entry sc (walked (blockFile sc e)) d e → first (entryRows sc d e) ≡ Accepted
+  unfolding entryRows headRows tileRows subBlockRows
+  entry-accepted x =
+      rw (
+        le-ltb _ _ (x .head-fits),
+        x .head,
+        le-ltb _ _ (x .fits),
+        x .dimensions,
+        ne-eqb _ _ (x .listed),
+        eq-eqb _ _ (x .uncompressed),
+        eq-eqb _ _ (x .part),
+        names-accepted (blockFile sc e) _ _ (x .names),
+        x .block,
+        x .contents,
+      )
+      (container-accepted (sc .file) e (blockFile sc e) (filePosition (sc .file) e) (x .container))
+
+-- ---- an entry A1
+
+module _ (bs : List ℕ) (e : ℕ) where
+  attachment-entry-ok : first (attachmentEntryRows bs e) ≡ Accepted → AttachmentEntry bs (walked bs) e
+  unfolding attachmentEntryRows
+  attachment-entry-ok x =
+      let g = passed (attachmentEntryRows bs e) x in
+      record {
+        entry = g 0;
+        part = eqb-true _ _ (not-false _ (g 1));
+        names = names-ok bs _ _ (not-false _ (g 2));
+        attachment = g 3;
+        contents = g 4;
+      }
+
+  attachment-entry-accepted : AttachmentEntry bs (walked bs) e → first (attachmentEntryRows bs e) ≡ Accepted
+  unfolding attachmentEntryRows
+  attachment-entry-accepted x = rw (x .entry, eq-eqb _ _ (x .part), names-accepted bs _ _ (x .names), x .attachment, x .contents)
 
 -- ---- a segment that need not be there: refusal 9 where 0 means none, and the segment's rows
 
-module _ (bs : List ℕ) (q : ℕ) (name : List ℕ) (rows : List Check) where
-  pub optional-ok : namesNoneBut0 bs q name ≡ false → first (cond (eqb q 0) [] rows) ≡ Accepted → (q ≡ 0) ⊎ (Names bs (walked bs) q name × (first rows ≡ Accepted))
-  unfolding namesNoneBut0 namesNone
-  optional-ok n e = go (eqb q 0) refl n e
-    where
-      go : (b : Bool) → eqb q 0 ≡ b → cond b false (not (walkedAs bs q name)) ≡ false → first (cond b [] rows) ≡ Accepted → (q ≡ 0) ⊎ (Names bs (walked bs) q name × (first rows ≡ Accepted))
-      go true f n e = inl (eqb-true q 0 f)
-      go false f n e = inr (names-ok bs q name (not-false _ n), e)
+-- there is none, or q names a segment of that name, of which P holds
+abbrev Optional : List ℕ → ℕ → List ℕ → Type 0 → Type 0
+Optional bs q name P = (q ≡ 0) ⊎ (Names bs (walked bs) q name × P)
 
-  pub optional-accepted : (q ≡ 0) ⊎ (Names bs (walked bs) q name × (first rows ≡ Accepted)) → (namesNoneBut0 bs q name ≡ false) × (first (cond (eqb q 0) [] rows) ≡ Accepted)
+module _ (bs : List ℕ) (q : ℕ) (name : List ℕ) (rows : List Check) where
+  optional-ok : namesNoneBut0 bs q name ≡ false → first (cond (eqb q 0) [] rows) ≡ Accepted → Optional bs q name (first rows ≡ Accepted)
+  unfolding namesNoneBut0 namesNone
+  optional-ok n e = by-bool (eqb q 0) (λ f. inl (eqb-true q 0 f)) (λ f. inr (names-ok bs q name (not-false _ (rw f at n)), rw f at e))
+
+  optional-accepted : Optional bs q name (first rows ≡ Accepted) → (namesNoneBut0 bs q name ≡ false) × (first (cond (eqb q 0) [] rows) ≡ Accepted)
   unfolding namesNoneBut0 namesNone
   optional-accepted (inl e) = rw (eq-eqb q 0 e) (refl, refl)
-  optional-accepted (inr x) = go (eqb q 0)
-    where
-      go : (b : Bool) → (cond b false (not (walkedAs bs q name)) ≡ false) × (first (cond b [] rows) ≡ Accepted)
-      go true = (refl, refl)
-      go false = rw (names-accepted bs q name (x .0)) (refl, x .1)
+  optional-accepted (inr x) = by-bool (eqb q 0) (λ f. rw f (refl, refl)) (λ f. rw (f, names-accepted bs q name (x .0)) (refl, x .1))
 
 module _ (bs : List ℕ) where
   -- ---- the file segment
@@ -65,62 +136,77 @@ module _ (bs : List ℕ) where
 
   pub file-accepted : Fields → first (fileRows bs) ≡ Accepted
   unfolding fileRows namesNone
-  file-accepted f = rw (eq-eqb _ _ (f .major-right), eq-eqb _ _ (f .part), eq-eqb _ _ (f .settled), names-accepted bs _ _ (f .directory), f .metadata, f .attachments)
+  file-accepted f =
+      rw (
+        eq-eqb _ _ (f .major-right),
+        eq-eqb _ _ (f .part),
+        eq-eqb _ _ (f .settled),
+        names-accepted bs _ _ (f .directory),
+        f .metadata,
+        f .attachments,
+      )
 
   -- ---- the metadata segment
 
+  abbrev metadataRow : List Check
+  metadataRow = row 10 (metadataPosition bs) (metadataBad bs (metadataPosition bs)) ∷ []
+
   pub metadata-ok : namesNoneBut0 bs (metadataPosition bs) nameMetadata ≡ false → first (metadataRows bs) ≡ Accepted
-      → (metadataPosition bs ≡ 0) ⊎ (Names bs (walked bs) (metadataPosition bs) nameMetadata × (metadataBad bs (metadataPosition bs) ≡ false))
+      → Optional bs (metadataPosition bs) nameMetadata (metadataBad bs (metadataPosition bs) ≡ false)
   unfolding metadataRows
   metadata-ok n e =
-      ⊎-elim inl (λ x. inr (x .0, first-passed (metadataBad bs (metadataPosition bs)) 10 (metadataPosition bs) Accepted (x .1) .0))
-      (optional-ok bs (metadataPosition bs) nameMetadata (row 10 (metadataPosition bs) (metadataBad bs (metadataPosition bs)) ∷ []) n e)
+      ⊎-elim inl (λ x. inr (x .0, passed metadataRow (x .1) 0)) (optional-ok bs (metadataPosition bs) nameMetadata metadataRow n e)
 
-  pub metadata-accepted : (metadataPosition bs ≡ 0) ⊎ (Names bs (walked bs) (metadataPosition bs) nameMetadata × (metadataBad bs (metadataPosition bs) ≡ false))
+  pub metadata-accepted : Optional bs (metadataPosition bs) nameMetadata (metadataBad bs (metadataPosition bs) ≡ false)
       → (namesNoneBut0 bs (metadataPosition bs) nameMetadata ≡ false) × (first (metadataRows bs) ≡ Accepted)
   unfolding metadataRows
   metadata-accepted m =
-      optional-accepted bs (metadataPosition bs) nameMetadata (row 10 (metadataPosition bs) (metadataBad bs (metadataPosition bs)) ∷ [])
-      (⊎-elim inl (λ x. inr (x .0, rw (x .1))) m)
+      optional-accepted bs (metadataPosition bs) nameMetadata metadataRow (⊎-elim inl (λ x. inr (x .0, rw (x .1))) m)
 
   -- ---- the attachment directory, at t
 
-  pub entries-ok : (t : ℕ) → first (attachmentDirectoryRows bs t) ≡ Accepted
-      → (attachmentDirectoryBad bs t ≡ false) × ((k : ℕ) → k < attachmentEntryCount bs t → AttachmentEntry bs (walked bs) (attachmentEntry t k))
+  entries-ok : (t : ℕ) → Names bs (walked bs) t nameAttachmentDirectory → first (attachmentDirectoryRows bs t) ≡ Accepted
+      → AttachmentDirectory bs (walked bs) t
   unfolding attachmentDirectoryRows
-  entries-ok t e =
-      let f = first-passed (attachmentDirectoryBad bs t) 10 t (first (rowsBelow (attachmentEntryCount bs t) (λ k. attachmentEntryRows bs (attachmentEntry t k)))) e in
-      (f .0, λ k h. attachment-entry-ok bs (attachmentEntry t k) (rows-each (attachmentEntryCount bs t) k _ (f .1) h))
+  entries-ok t n e =
+      let f = first-passed (attachmentDirectoryBad bs t) 10 t (first (rowsBelow (attachmentEntryCount bs t) _)) e in
+      record { names = n; directory = f .0; entries = λ k h. attachment-entry-ok bs (attachmentEntry t k) (rows-each (attachmentEntryCount bs t) k _ (f .1) h) }
 
-  pub entries-accepted : (t : ℕ) → AttachmentDirectory bs (walked bs) t → first (attachmentDirectoryRows bs t) ≡ Accepted
+  entries-accepted : (t : ℕ) → AttachmentDirectory bs (walked bs) t → first (attachmentDirectoryRows bs t) ≡ Accepted
   unfolding attachmentDirectoryRows
-  entries-accepted t a = rw (a .directory) (rows-all (attachmentEntryCount bs t) _ (λ k l. attachment-entry-accepted bs (attachmentEntry t k) (a .entries k l)))
+  entries-accepted t a =
+      rw (a .directory) (rows-all (attachmentEntryCount bs t) _ (λ k l. attachment-entry-accepted bs (attachmentEntry t k) (a .entries k l)))
 
-  pub attachments-ok : namesNoneBut0 bs (attachmentDirectoryPosition bs) nameAttachmentDirectory ≡ false → first (attachmentsRows bs) ≡ Accepted
-      → (attachmentDirectoryPosition bs ≡ 0) ⊎ AttachmentDirectory bs (walked bs) (attachmentDirectoryPosition bs)
+  abbrev t : ℕ
+  t = attachmentDirectoryPosition bs
+
+  pub attachments-ok : namesNoneBut0 bs t nameAttachmentDirectory ≡ false → first (attachmentsRows bs) ≡ Accepted
+      → (t ≡ 0) ⊎ AttachmentDirectory bs (walked bs) t
   unfolding attachmentsRows
   attachments-ok n e =
-      ⊎-elim inl (λ x. inr (let y = entries-ok (attachmentDirectoryPosition bs) (x .1) in record { names = x .0; directory = y .0; entries = y .1 }))
-      (optional-ok bs (attachmentDirectoryPosition bs) nameAttachmentDirectory (attachmentDirectoryRows bs (attachmentDirectoryPosition bs)) n e)
+      ⊎-elim inl (λ x. inr (entries-ok t (x .0) (x .1))) (optional-ok bs t nameAttachmentDirectory (attachmentDirectoryRows bs t) n e)
 
-  pub attachments-accepted : (attachmentDirectoryPosition bs ≡ 0) ⊎ AttachmentDirectory bs (walked bs) (attachmentDirectoryPosition bs)
-      → (namesNoneBut0 bs (attachmentDirectoryPosition bs) nameAttachmentDirectory ≡ false) × (first (attachmentsRows bs) ≡ Accepted)
+  pub attachments-accepted : (t ≡ 0) ⊎ AttachmentDirectory bs (walked bs) t
+      → (namesNoneBut0 bs t nameAttachmentDirectory ≡ false) × (first (attachmentsRows bs) ≡ Accepted)
   unfolding attachmentsRows
   attachments-accepted a =
-      optional-accepted bs (attachmentDirectoryPosition bs) nameAttachmentDirectory (attachmentDirectoryRows bs (attachmentDirectoryPosition bs))
-      (⊎-elim inl (λ x. inr (x .names, entries-accepted (attachmentDirectoryPosition bs) x)) a)
+      optional-accepted bs t nameAttachmentDirectory (attachmentDirectoryRows bs t) (⊎-elim inl (λ x. inr (x .names, entries-accepted t x)) a)
 
 -- ---- the sub-block directory
 
 module _ (sc : Scan) where
-  pub directory-ok : first (directoryRows sc) ≡ Accepted
-      → (directoryBad (sc .file) (directoryPosition (sc .file)) ≡ false) × ((k : ℕ) → k < tileCount (sc .file) → Entry sc (walked (sc .file)) (directoryPosition (sc .file)) (entryPlace (sc .file) k))
+  abbrev d : ℕ
+  d = directoryPosition (sc .file)
+
+  abbrev Entries : Type 0
+  Entries = (k : ℕ) → k < tileCount (sc .file) → Entry sc (walked (sc .file)) d (entryPlace (sc .file) k)
+
+  pub directory-ok : first (directoryRows sc) ≡ Accepted → (directoryBad (sc .file) d ≡ false) × Entries
   unfolding directoryRows
   directory-ok e =
-      let f = first-passed (directoryBad (sc .file) (directoryPosition (sc .file))) 10 (directoryPosition (sc .file)) (first (rowsBelow (tileCount (sc .file)) (λ k. entryRows sc (directoryPosition (sc .file)) (entryPlace (sc .file) k)))) e in
-      (f .0, λ k h. entry-ok sc (directoryPosition (sc .file)) (entryPlace (sc .file) k) (rows-each (tileCount (sc .file)) k _ (f .1) h))
+      let f = first-passed (directoryBad (sc .file) d) 10 d (first (rowsBelow (tileCount (sc .file)) _)) e in
+      (f .0, λ k h. entry-ok sc d (entryPlace (sc .file) k) (rows-each (tileCount (sc .file)) k _ (f .1) h))
 
-  pub directory-accepted : directoryBad (sc .file) (directoryPosition (sc .file)) ≡ false → ((k : ℕ) → k < tileCount (sc .file) → Entry sc (walked (sc .file)) (directoryPosition (sc .file)) (entryPlace (sc .file) k))
-      → first (directoryRows sc) ≡ Accepted
+  pub directory-accepted : directoryBad (sc .file) d ≡ false → Entries → first (directoryRows sc) ≡ Accepted
   unfolding directoryRows
-  directory-accepted e h = rw e (rows-all (tileCount (sc .file)) _ (λ k l. entry-accepted sc (directoryPosition (sc .file)) (entryPlace (sc .file) k) (h k l)))
+  directory-accepted e h = rw e (rows-all (tileCount (sc .file)) _ (λ k l. entry-accepted sc d (entryPlace (sc .file) k) (h k l)))

@@ -111,4 +111,10 @@ module _ (r a b : ℕ) (e : r ≡ b) where
   pub le-no′ : r < a → leb a b ≡ false
   le-no′ h = rw (← e) (lt-leb a r h)
 
-pub ruleset flags = (cond-true, cond-false, any-here, any-skip, any-last, any-none, any-later, or-here, or-next, true-is, false-is, is-true, is-false, is-true-not, is-false-not, or-is-left, or-is-right, or-is-false, not-is-true, not-is-false, lt-yes, lt-no, le-yes, le-no, eq-yes, eq-no, lt-yes′, lt-no′, le-yes′, le-no′, lt-ltb, le-ltb, le-leb, lt-leb, eq-eqb, ne-eqb, refl)
+pub ruleset chains = (cond-true, cond-false, any-here, any-skip, any-last, any-none, any-later, or-here, or-next, true-is, false-is)
+
+pub ruleset bools = (is-true, is-false, is-true-not, is-false-not, or-is-left, or-is-right, or-is-false, not-is-true, not-is-false)
+
+pub ruleset numbers = (lt-yes, lt-no, le-yes, le-no, eq-yes, eq-no, lt-yes′, lt-no′, le-yes′, le-no′, lt-ltb, le-ltb, le-leb, lt-leb, eq-eqb, ne-eqb)
+
+pub ruleset flags = (chains, bools, numbers, refl)

@@ -7,6 +7,5 @@ pub mod Members
 pub mod SegmentLaws
 pub mod Walk
 pub mod ChunkWalk
-pub mod EntryRows
 pub mod FileRows
 pub mod Acceptance

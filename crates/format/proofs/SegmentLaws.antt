@@ -2,19 +2,19 @@
 use Prim.Native.Nat.{ℕ, zero, suc, _+_, _%_, _^_, _≤_, _<_}
 use mathlib.Core.Path.{_≡_, refl}
 use mathlib.Core.List.{List, [], _∷_}
-use mathlib.Core.Bool.{Bool, true, false, cond}
+use mathlib.Core.Bool.{true, false}
 use native.Mathlib.Omega.{arith}
 use lib.ListN.{length, getD}
 use lib.Dec.{eqb, ltb}
 use borrow.Author.Tests.{lt-ltb, le-ltb, ltb-true, ltb-false, eqb-true, eqb-false, not-false}
-use Rattle.format.specs.Checks.{first, ifAccepted}
-use Rattle.format.specs.Segments.{allocatedSize, usedSize, room, nextSegment, lengthBad, allocatedBad, usedBad, endBad, sizesBad, roleBad, segmentRows, walkRows, walkedFrom, walked, member, walkedAs}
+use Rattle.format.specs.Checks.{first}
+use Rattle.format.specs.Segments.{allocatedSize, usedSize, room, nextSegment, lengthBad, allocatedBad, usedBad, endBad, sizesBad, roleBad}
+use Rattle.format.specs.Segments.{segmentRows, walkRows, walkedFrom, walked, member, walkedAs}
 use Rattle.format.specs.WellFormed.{Each, Segment, Names}
-use Rattle.format.specs.declared.Verdict.{Verdict}
-use Rattle.format.specs.declared.Verdict.the-variants.{Accepted, Refused}
-use Rattle.format.proofs.Below.{none, and-both}
-use Rattle.format.proofs.Firsts.{passed, first-pass}
-use Rattle.format.proofs.Members.{member-all, among-member, member-among}
+use Rattle.format.specs.declared.Verdict.the-variants.{Accepted}
+use Rattle.format.proofs.Below.{by-bool, none, and-both}
+use Rattle.format.proofs.Firsts.{by-verdict, passed, first-pass}
+use Rattle.format.proofs.Members.{member-all, among-member, member-among, each-more}
 
 -- ---- refusal 1 is not given
 
@@ -51,11 +51,7 @@ next-is bs p = refl
 
 pub room-allocated : (bs : List ℕ) (p : ℕ) → Sized bs p → room bs p ≤ allocatedSize bs p
 unfolding room
-room-allocated bs p s = go (eqb (usedSize bs p) 0)
-  where
-    go : (b : Bool) → cond b (allocatedSize bs p) (usedSize bs p) ≤ allocatedSize bs p
-    go true = omega arith
-    go false = s .used
+room-allocated bs p s = by-bool (eqb (usedSize bs p) 0) (λ e. rw e (omega arith)) (λ e. rw e (s .used))
 
 -- a segment lies in the file, with its room
 pub room-within : (bs : List ℕ) (p : ℕ) → Sized bs p → p + 32 + room bs p ≤ length bs
@@ -100,17 +96,17 @@ module _ (bs : List ℕ) (p : ℕ) where
 
 -- ---- what holds of all walked segments, by one induction
 
-module _ (bs : List ℕ) (P : ℕ → ℕ → List ℕ → Type 0) (stop : (n p : ℕ) → P n p []) (more : (n p : ℕ) (l : List ℕ) → p < length bs → Segment bs p → P n (nextSegment bs p) l → P (suc n) p (p ∷ l)) where
+module _ (bs : List ℕ) (P : ℕ → ℕ → List ℕ → Type 0) (stop : (n p : ℕ) → P n p [])
+    (more : (n p : ℕ) (l : List ℕ) → p < length bs → Segment bs p → P n (nextSegment bs p) l → P (suc n) p (p ∷ l)) where
   pub walked-ind : (n p : ℕ) → P n p (walkedFrom n bs p)
   unfolding walkedFrom
   walked-ind zero p = stop zero p
-  walked-ind (suc n) p = go (ltb p (length bs)) refl (first (segmentRows bs p)) refl (walked-ind n (nextSegment bs p))
-    where
-      go : (b : Bool) → ltb p (length bs) ≡ b → (v : Verdict) → first (segmentRows bs p) ≡ v → P n (nextSegment bs p) (walkedFrom n bs (nextSegment bs p))
-          → P (suc n) p (cond b (ifAccepted v (p ∷ walkedFrom n bs (nextSegment bs p)) []) [])
-      go false e v f ih = stop (suc n) p
-      go true e Accepted f ih = more n p _ (ltb-true p (length bs) e) (segment-ok bs p f) ih
-      go true e (Refused m a) f ih = stop (suc n) p
+  walked-ind (suc n) p =
+      by-bool (ltb p (length bs))
+      (λ e. by-verdict (first (segmentRows bs p))
+      (λ f. rw (e, f) (more n p _ (ltb-true p (length bs) e) (segment-ok bs p f) (walked-ind n (nextSegment bs p))))
+      (λ m a f. rw (e, f) (stop (suc n) p)))
+      (λ e. rw e (stop (suc n) p))
 
 abbrev pub Rising : List ℕ → Type 0
 Rising l = (i j : ℕ) → i < j → j < length l → getD l i 0 < getD l j 0
@@ -123,27 +119,25 @@ pub record Places (bs : List ℕ) (n p : ℕ) (l : List ℕ) : Type 0 where
   pub segment : Each (Segment bs) l
 
 no-places : (bs : List ℕ) (n p : ℕ) → Places bs n p []
-no-places bs n p = record { few = omega arith; from = λ i h. absurd (omega arith); rising = λ i j h k. absurd (omega arith); segment = λ i h. absurd (omega arith) }
+no-places bs n p =
+    record { few = omega arith; from = λ i h. absurd (omega arith); rising = λ i j h k. absurd (omega arith); segment = λ i h. absurd (omega arith) }
 
 more-places : (bs : List ℕ) (n p : ℕ) (l : List ℕ) → p < length bs → Segment bs p → Places bs n (nextSegment bs p) l → Places bs (suc n) p (p ∷ l)
-more-places bs n p l h s r = record { few = omega (arith, r .few); from = from′; rising = rise; segment = all }
+more-places bs n p l h s r =
+    record {
+      few = omega (arith, r .few);
+      from = each-more (λ q. p ≤ q) p l (omega arith) (λ i k. omega (arith, later i k));
+      rising = rise;
+      segment = each-more (Segment bs) p l s (r .segment);
+    }
   where
     later : (i : ℕ) → i < length l → p < getD l i 0
     later i k = omega (arith, r .from i k, next-is bs p)
 
-    from′ : Each (λ q. p ≤ q) (p ∷ l)
-    from′ zero k = omega arith
-    from′ (suc i) k = omega (arith, later i (omega arith))
-
     rise : Rising (p ∷ l)
-    rise zero zero u k = absurd (omega arith)
+    rise i zero u k = absurd (omega arith)
     rise zero (suc j) u k = later j (omega arith)
-    rise (suc i) zero u k = absurd (omega arith)
     rise (suc i) (suc j) u k = r .rising i j (omega arith) (omega arith)
-
-    all : Each (Segment bs) (p ∷ l)
-    all zero k = s
-    all (suc i) k = r .segment i (omega arith)
 
 pub places-from : (bs : List ℕ) (n p : ℕ) → Places bs n p (walkedFrom n bs p)
 places-from bs = walked-ind bs (Places bs) (no-places bs) (more-places bs)
@@ -152,11 +146,7 @@ places-from bs = walked-ind bs (Places bs) (no-places bs) (more-places bs)
 
 pub walked-places : (bs : List ℕ) → Places bs 8192 0 (walked bs)
 unfolding walked
-walked-places bs = go (lengthBad bs)
-  where
-    go : (b : Bool) → Places bs 8192 0 (cond b [] (walkedFrom 8192 bs 0))
-    go true = no-places bs 8192 0
-    go false = places-from bs 8192 0
+walked-places bs = by-bool (lengthBad bs) (λ e. rw e (no-places bs 8192 0)) (λ e. rw e (places-from bs 8192 0))
 
 pub walked-few : (bs : List ℕ) → length (walked bs) ≤ 8192
 walked-few bs = walked-places bs .few

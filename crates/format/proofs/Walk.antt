@@ -1,8 +1,8 @@
 -- The walk accepts exactly where the walked segments tile the file, and then they are the only ones that do. Assumes nothing.
 use Prim.Native.Nat.{ℕ, zero, suc, _≤_, _<_, suc-le-suc, zero-le}
 use mathlib.Core.Path.{_≡_, refl, ap, _∙_}
-use mathlib.Core.List.{List, [], _∷_, _++_}
-use mathlib.Core.Bool.{Bool, true, false, cond}
+use mathlib.Core.List.{List, [], _∷_}
+use mathlib.Core.Bool.{false}
 use native.Mathlib.Omega.{arith}
 use lib.ListN.{length}
 use lib.Dec.{ltb}
@@ -12,7 +12,9 @@ use Rattle.format.specs.Segments.{nextSegment, lengthBad, segmentRows, w
 use Rattle.format.specs.WellFormed.{Chain, Each, Segment}
 use Rattle.format.specs.declared.Verdict.the-variants.{Accepted}
 use Rattle.format.proofs.Firsts.{first-both, first-passed}
-use Rattle.format.proofs.SegmentLaws.{length-ok, sizes-ok, room-within, role-room, walked-places, next-is, segment-ok, segment-accepted, walk-end, walk-next, walked-end, walked-next}
+use Rattle.format.proofs.Below.{by-bool}
+use Rattle.format.proofs.SegmentLaws.{length-ok, sizes-ok, room-within, role-room, walked-places, next-is, segment-ok, segment-accepted}
+use Rattle.format.proofs.SegmentLaws.{walk-end, walk-next, walked-end, walked-next}
 
 module _ (bs : List ℕ) where
   -- the walk ends where the file ends: a segment that is not refused lies in it
@@ -21,15 +23,12 @@ module _ (bs : List ℕ) where
   walk-chain zero p h e =
       let l = ltb-false p (length bs) (first-passed (ltb p (length bs)) 4 p Accepted e .0) in
       rw (walked-end bs p 0 l) (omega arith)
-  walk-chain (suc n) p h e = go (ltb p (length bs)) refl e (λ k e′. walk-chain n (nextSegment bs p) k e′)
-    where
-      go : (b : Bool) → ltb p (length bs) ≡ b → first (cond b (segmentRows bs p ++ walkRows n bs (nextSegment bs p)) []) ≡ Accepted
-          → (nextSegment bs p ≤ length bs → first (walkRows n bs (nextSegment bs p)) ≡ Accepted → Chain (nextSegment bs) (nextSegment bs p) (length bs) (walkedFrom n bs (nextSegment bs p)))
-          → Chain (nextSegment bs) p (length bs) (walkedFrom (suc n) bs p)
-      go false f e′ ih = let l = ltb-false p (length bs) f in rw (walked-end bs p (suc n) l) (omega arith)
-      go true f e′ ih =
-          let both = first-both (segmentRows bs p) _ e′ in
-          rw (walked-next bs p n (ltb-true _ _ f) (both .0)) (refl, ih (sizes-ok bs p (segment-ok bs p (both .0) .sizes) .within) (both .1))
+  walk-chain (suc n) p h e =
+      by-bool (ltb p (length bs))
+      (λ f. let both = first-both (segmentRows bs p) (walkRows n bs (nextSegment bs p)) (rw f at e) in
+      rw (walked-next bs p n (ltb-true _ _ f) (both .0))
+      (refl, walk-chain n (nextSegment bs p) (sizes-ok bs p (segment-ok bs p (both .0) .sizes) .within) (both .1)))
+      (λ f. let l = ltb-false p (length bs) f in rw (walked-end bs p (suc n) l) (omega arith))
 
   -- at most n segments that tile the file from p on are the walked ones
   pub chain-walk : (l : List ℕ) (n p : ℕ) → Chain (nextSegment bs) p (length bs) l → Each (Segment bs) l → length l ≤ n

@@ -84,16 +84,11 @@ module _ (n r : ℕ) (before t : List ℕ) (i : ℕ) (w : Inserting n r before t
   pub inserted-behind : (m v : ℕ) → i ≡ suc m → v ≡ getD t m 0 → v < r → Rising (take n before) → Inserted n r before (set t i r)
   inserted-behind m v e f h u = inserted low
     where
-      s : length (take n before) ≡ n
-      s = length-take-le n before (omega arith)
-
       last : getD (take n before) m 0 < r
       last = rw (getD-take n before m 0 (omega (arith, w .few))) (omega (arith, f ∙ below-is m (omega arith)))
 
       low : (j : ℕ) → j < i → getD (take n before) j 0 < r
       low j k =
+          let s : length (take n before) ≡ n = length-take-le n before (omega arith) in
           let d : j ≤ m = omega arith in
-          ⊎-elim
-          (λ q. rw q last)
-          (λ b. omega (arith, u j m b (omega (arith, s, w .few)), last))
-          (eq-or-lt-of-le d)
+          ⊎-elim (λ q. rw q last) (λ b. omega (arith, u j m b (omega (arith, s, w .few)), last)) (eq-or-lt-of-le d)

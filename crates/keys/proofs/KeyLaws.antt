@@ -1,36 +1,26 @@
--- What a list of keys has after one more went in: its length, its members, its order, and where the key stands. Assumes nothing.
-use Prim.Native.Nat.{ℕ, zero, suc, _+_, _≤_, _<_, suc-le-suc, zero-le}
-use mathlib.Core.Path.{_≡_, refl, sym, ap, subst}
+-- What a list of keys has after one more went in: its length, its order, and where the key stands. Assumes nothing.
+use Prim.Native.Nat.{ℕ, zero, suc, _≤_, _<_, suc-le-suc, zero-le}
+use mathlib.Core.Path.{_≡_, refl, ap}
 use mathlib.Core.List.{List, [], _∷_, _++_}
-use mathlib.Core.Bool.{Bool, true, false}
-use mathlib.Core.Logic.{_⊎_, inl, inr}
+use mathlib.Core.Bool.{Bool, true, false, cond}
 use native.Mathlib.Omega.{arith}
 use lib.ListN.{length, getD, take, drop}
 use lib.Dec.{leb}
 use borrow.Author.Tests.{le-leb, lt-leb, leb-true, leb-false}
-use Rattle.keys.specs.Keys.{insertKey, Rising, Inserted}
+use Rattle.keys.specs.Keys.{insertKey, Rising}
 
 -- q is one of l
 abbrev pub Among : ℕ → List ℕ → Type 0
 Among q l = (i : ℕ) × (i < length l) × (getD l i 0 ≡ q)
 
--- ---- a step
-
-pub insert-before : (r q : ℕ) (qs : List ℕ) → r ≤ q → insertKey r (q ∷ qs) ≡ r ∷ q ∷ qs
-unfolding insertKey
-insert-before r q qs h = rw (le-leb r q h)
-
-pub insert-behind : (r q : ℕ) (qs : List ℕ) → q < r → insertKey r (q ∷ qs) ≡ q ∷ insertKey r qs
-unfolding insertKey
-insert-behind r q qs h = rw (lt-leb r q h)
-
--- what holds of both ways holds of the list
+-- what holds of both ways of a step holds of the list
 step : (P : List ℕ → Type 0) (r q : ℕ) (qs : List ℕ) → (r ≤ q → P (r ∷ q ∷ qs)) → (q < r → P (q ∷ insertKey r qs)) → P (insertKey r (q ∷ qs))
+unfolding insertKey
 step P r q qs f g = go (leb r q) refl
   where
-    go : (b : Bool) → leb r q ≡ b → P (insertKey r (q ∷ qs))
-    go true e = let h = leb-true r q e in subst P (sym (insert-before r q qs h)) (f h)
-    go false e = let h = leb-false r q e in subst P (sym (insert-behind r q qs h)) (g h)
+    go : (b : Bool) → leb r q ≡ b → P (cond b (r ∷ q ∷ qs) (q ∷ insertKey r qs))
+    go true e = f (leb-true r q e)
+    go false e = g (leb-false r q e)
 
 -- ---- the length
 
@@ -59,44 +49,19 @@ unfolding insertKey
 insert-each P r [] p h zero k = p
 insert-each P r [] p h (suc j) k = absurd (omega arith)
 insert-each P r (q ∷ qs) p h j k =
-    step (λ l. (j : ℕ) → j < length l → P (getD l j 0)) r q qs (λ u. front) (λ u. back (insert-each P r qs p (λ i k. h (suc i) (suc-le-suc k)))) j k
+    step (λ l. (j : ℕ) → j < length l → P (getD l j 0)) r q qs (λ u. first r (q ∷ qs) p h)
+    (λ u. first q (insertKey r qs) (h 0 (suc-le-suc zero-le)) (insert-each P r qs p (λ i k. h (suc i) (suc-le-suc k)))) j k
   where
-    front : (j : ℕ) → j < length (r ∷ q ∷ qs) → P (getD (r ∷ q ∷ qs) j 0)
-    front zero k = p
-    front (suc j) k = h j (omega arith)
-
-    back : ((j : ℕ) → j < length (insertKey r qs) → P (getD (insertKey r qs) j 0)) → (j : ℕ) → j < length (q ∷ insertKey r qs)
-        → P (getD (q ∷ insertKey r qs) j 0)
-    back ih zero k = h 0 (suc-le-suc zero-le)
-    back ih (suc j) k = ih j (omega arith)
-
--- the key, and those that were there
-pub insert-among : (q r : ℕ) (l : List ℕ) → Among q (insertKey r l) → (q ≡ r) ⊎ Among q l
-insert-among q r l a = subst (λ x. (x ≡ r) ⊎ Among x l) (a .2) (insert-each (λ x. (x ≡ r) ⊎ Among x l) r l (inl refl) (λ i k. inr (i, k, refl)) (a .0) (a .1))
-
-later : (q x : ℕ) (l : List ℕ) → Among q l → Among q (x ∷ l)
-later q x l a = (suc (a .0), suc-le-suc (a .1), a .2)
-
-pub insert-has : (r : ℕ) (l : List ℕ) → Among r (insertKey r l)
-unfolding insertKey
-insert-has r [] = (0, suc-le-suc zero-le, refl)
-insert-has r (q ∷ qs) = step (Among r) r q qs (λ h. (0, suc-le-suc zero-le, refl)) (λ h. later r q (insertKey r qs) (insert-has r qs))
-
-pub insert-keeps : (q r : ℕ) (l : List ℕ) → Among q l → Among q (insertKey r l)
-insert-keeps q r [] a = absurd (omega arith)
-insert-keeps q r (x ∷ xs) a = step (Among q) r x xs (λ h. later q r (x ∷ xs) a) (λ h. go (a .0) (a .1) (a .2) (λ b. insert-keeps q r xs b))
-  where
-    go : (i : ℕ) → i < length (x ∷ xs) → getD (x ∷ xs) i 0 ≡ q → (Among q xs → Among q (insertKey r xs)) → Among q (x ∷ insertKey r xs)
-    go zero k e ih = (0, suc-le-suc zero-le, e)
-    go (suc i) k e ih = later q x (insertKey r xs) (ih (i, omega arith, e))
+    first : (x : ℕ) (l : List ℕ) → P x → ((j : ℕ) → j < length l → P (getD l j 0)) → (j : ℕ) → j < length (x ∷ l) → P (getD (x ∷ l) j 0)
+    first x l p h zero k = p
+    first x l p h (suc j) k = h j (omega arith)
 
 -- ---- the order
 
 -- below all of a rising list
 rising-cons : (q : ℕ) (l : List ℕ) → ((j : ℕ) → j < length l → q < getD l j 0) → Rising l → Rising (q ∷ l)
-rising-cons q l low u zero zero h k = absurd (omega arith)
+rising-cons q l low u i zero h k = absurd (omega arith)
 rising-cons q l low u zero (suc j) h k = low j (omega arith)
-rising-cons q l low u (suc i) zero h k = absurd (omega arith)
 rising-cons q l low u (suc i) (suc j) h k = u i j (omega arith) (omega arith)
 
 pub rising-insert : (r : ℕ) (l : List ℕ) → Rising l → (Among r l → ⊥) → Rising (insertKey r l)
@@ -104,7 +69,7 @@ unfolding insertKey
 rising-insert r [] u n = rising-cons r [] (λ j h. absurd (omega arith)) u
 rising-insert r (q ∷ qs) u n =
     step Rising r q qs (λ h. rising-cons r (q ∷ qs) (front h) u)
-    (λ h. rising-cons q (insertKey r qs) (back h) (rising-insert r qs tail (λ a. n (later r q qs a))))
+    (λ h. rising-cons q (insertKey r qs) (back h) (rising-insert r qs tail (λ a. n (suc (a .0), suc-le-suc (a .1), a .2))))
   where
     tail : Rising qs
     tail i j h k = u (suc i) (suc j) (suc-le-suc h) (suc-le-suc k)
@@ -115,8 +80,3 @@ rising-insert r (q ∷ qs) u n =
 
     back : q < r → (j : ℕ) → j < length (insertKey r qs) → q < getD (insertKey r qs) j 0
     back h = insert-each (λ x. q < x) r qs h (λ i k. u 0 (suc i) (suc-le-suc zero-le) (suc-le-suc k))
-
--- the keys of the table rise after one went in that was not there
-pub inserted-rising : (n r : ℕ) (before after : List ℕ) → Inserted n r before after → Rising (take n before) → (Among r (take n before) → ⊥)
-    → Rising (take (n + 1) after)
-inserted-rising n r before after w u k = subst Rising (sym (w .keys-are)) (rising-insert r (take n before) u k)

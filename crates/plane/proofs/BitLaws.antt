@@ -1,9 +1,9 @@
 -- Laws of a byte's bits, counted from the high one.
 use mathlib.Core.Path.{_≡_, refl, sym, ap, _∙_}
-use Prim.Native.Nat.{ℕ, zero, suc, _+_, _*_, _-_, _/_, _%_, _^_, _<_}
+use Prim.Native.Nat.{ℕ, zero, suc, _+_, _*_, _/_, _%_, _≤_, _<_}
 use native.Mathlib.Omega.{arith}
 use mathlib.Core.Bool.{Bool, true, false}
-use lib.Dec.{eqb}
+use lib.Dec.{eqb, lit<}
 use Rattle.plane.specs.Sums.{one}
 use Rattle.plane.specs.Paint.{bitIn, pack}
 use Rattle.plane.proofs.SumLaws.{one-le}
@@ -25,22 +25,25 @@ each8 P a b c d e f g h (suc (suc (suc (suc (suc (suc (suc zero))))))) l = h
 each8 P a b c d e f g h (suc (suc (suc (suc (suc (suc (suc (suc n)))))))) l = absurd (omega arith)
 
 module _ (f : ℕ → Bool) where
+  one-each : (one (f 0) ≤ 1) × (one (f 1) ≤ 1) × (one (f 2) ≤ 1) × (one (f 3) ≤ 1) × (one (f 4) ≤ 1) × (one (f 5) ≤ 1) × (one (f 6) ≤ 1) × (one (f 7) ≤ 1)
+  one-each = search one-le
+
   pub pack-lt : pack f < 256
   unfolding pack
-  pack-lt = omega (arith, one-le (f 0), one-le (f 1), one-le (f 2), one-le (f 3), one-le (f 4), one-le (f 5), one-le (f 6), one-le (f 7))
+  pack-lt = omega (arith, one-each)
 
   pub bit-pack : (i : ℕ) → i < 8 → bitIn (pack f) i ≡ f i
   unfolding bitIn pack
   bit-pack =
       each8 (λ (i : ℕ). bitIn (pack f) i ≡ f i)
-      (eqb-one (f 0) (pack f / 2 ^ (7 - 0) % 2) (omega (arith, one-le (f 0), one-le (f 1), one-le (f 2), one-le (f 3), one-le (f 4), one-le (f 5), one-le (f 6), one-le (f 7))))
-      (eqb-one (f 1) (pack f / 2 ^ (7 - 1) % 2) (omega (arith, one-le (f 0), one-le (f 1), one-le (f 2), one-le (f 3), one-le (f 4), one-le (f 5), one-le (f 6), one-le (f 7))))
-      (eqb-one (f 2) (pack f / 2 ^ (7 - 2) % 2) (omega (arith, one-le (f 0), one-le (f 1), one-le (f 2), one-le (f 3), one-le (f 4), one-le (f 5), one-le (f 6), one-le (f 7))))
-      (eqb-one (f 3) (pack f / 2 ^ (7 - 3) % 2) (omega (arith, one-le (f 0), one-le (f 1), one-le (f 2), one-le (f 3), one-le (f 4), one-le (f 5), one-le (f 6), one-le (f 7))))
-      (eqb-one (f 4) (pack f / 2 ^ (7 - 4) % 2) (omega (arith, one-le (f 0), one-le (f 1), one-le (f 2), one-le (f 3), one-le (f 4), one-le (f 5), one-le (f 6), one-le (f 7))))
-      (eqb-one (f 5) (pack f / 2 ^ (7 - 5) % 2) (omega (arith, one-le (f 0), one-le (f 1), one-le (f 2), one-le (f 3), one-le (f 4), one-le (f 5), one-le (f 6), one-le (f 7))))
-      (eqb-one (f 6) (pack f / 2 ^ (7 - 6) % 2) (omega (arith, one-le (f 0), one-le (f 1), one-le (f 2), one-le (f 3), one-le (f 4), one-le (f 5), one-le (f 6), one-le (f 7))))
-      (eqb-one (f 7) (pack f / 2 ^ (7 - 7) % 2) (omega (arith, one-le (f 0), one-le (f 1), one-le (f 2), one-le (f 3), one-le (f 4), one-le (f 5), one-le (f 6), one-le (f 7))))
+      (eqb-one (f 0) (pack f / 128 % 2) (omega (arith, one-each)))
+      (eqb-one (f 1) (pack f / 64 % 2) (omega (arith, one-each)))
+      (eqb-one (f 2) (pack f / 32 % 2) (omega (arith, one-each)))
+      (eqb-one (f 3) (pack f / 16 % 2) (omega (arith, one-each)))
+      (eqb-one (f 4) (pack f / 8 % 2) (omega (arith, one-each)))
+      (eqb-one (f 5) (pack f / 4 % 2) (omega (arith, one-each)))
+      (eqb-one (f 6) (pack f / 2 % 2) (omega (arith, one-each)))
+      (eqb-one (f 7) (pack f / 1 % 2) (omega (arith, one-each)))
 
 -- a digit, from its test
 pub digit : (a : ℕ) → one (eqb (a % 2) 1) ≡ a % 2
@@ -73,7 +76,4 @@ pack-bits x h =
 -- two bytes with the same bits
 pub same-bits : (x y : ℕ) → x < 256 → y < 256 → ((i : ℕ) → i < 8 → bitIn x i ≡ bitIn y i) → x ≡ y
 unfolding pack
-same-bits x y hx hy e =
-    pack-bits x hx
-    ∙ (simp (e 0 (omega arith), e 1 (omega arith), e 2 (omega arith), e 3 (omega arith), e 4 (omega arith), e 5 (omega arith), e 6 (omega arith), e 7 (omega arith)))
-    ∙ sym (pack-bits y hy)
+same-bits x y hx hy e = pack-bits x hx ∙ simp (e, lit<, tt {0}) (sym (pack-bits y hy))

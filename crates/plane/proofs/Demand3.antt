@@ -1,11 +1,10 @@
 -- Demand 3, entire.
 use mathlib.Core.Path.{_≡_, refl, sym, ap, ap₂, _∙_}
-use mathlib.Core.Logic.{_⊎_, inl, inr}
+use mathlib.Core.Logic.{inl, inr}
 use Prim.Native.Nat.{ℕ, _+_, _<_}
 use native.Mathlib.Numerals.{add-one}
 use native.Mathlib.Omega.{arith}
-use native.Mathlib.Nat.{zero-add, lt-of-not-le, le-refl}
-use native.Mathlib.Decide.{decLt}
+use native.Mathlib.Nat.{zero-add, le-refl}
 use mathlib.Core.List.{List, [], _∷_, reverse}
 use mathlib.Core.Bool.{and-false, or-true}
 use lib.ListN.{length}
@@ -14,11 +13,12 @@ use Rattle.plane.specs.Tiles.{Tile, area, givesAt, Ranked, covered, with
 use Rattle.plane.specs.Paint.{bit, ones}
 use Rattle.plane.specs.Turns.{Painting, Kind, plain, quick, start, bottomFirst, order, compose, turnTile, before, gave, added}
 use Rattle.plane.specs.Demand2.{Room}
-use Rattle.plane.specs.Cuts.{Line, column, row, Cuts, fore, rear, Inside, Proper, Halves}
+use Rattle.plane.specs.Cuts.{Line, column, row, Cuts, fore, rear, Proper, Halves}
 use Rattle.plane.specs.Demand3.{Demand3}
+use Rattle.plane.proofs.Tests.{by-lt}
 use Rattle.plane.proofs.SumLaws.{one-le}
 use Rattle.plane.proofs.RunLaws.{turn-byte, turn-sets, plain-adds, count-within}
-use Rattle.plane.proofs.OrderLaws.{order-length, order-to, order-from, sort-sum, sort-rising, reverse-falling, rising-at, falling-at}
+use Rattle.plane.proofs.OrderLaws.{order-length, order-to, order-from, sort-sum, sort-rising, reverse-falling, sorted-at}
 use Rattle.plane.proofs.PlaneLaws.{makes, same-pixels, one-plane, plane-ones, within-cut}
 use Rattle.plane.proofs.TurnLaws.{before-first, before-next, before-last, before-room, before-stored, covered-since, quick-times, quick-ones}
 use Rattle.plane.specs.declared.Rect.{Rect}
@@ -26,7 +26,7 @@ use Rattle.plane.specs.declared.Rect.{Rect}
 over-ext : (ts : List Tile) (f g : Tile → ℕ) → ((t : Tile) → f t ≡ g t) → sumOver ts f ≡ sumOver ts g
 unfolding sumOver
 over-ext [] f g e = refl
-over-ext (t ∷ ts) f g e = ap₂ (λ (a c : ℕ). a + c) (e t) (over-ext ts f g e)
+over-ext (t ∷ ts) f g e = rw (e t, over-ext ts f g e)
 
 cut-halves : (l : Line) (w : Rect) → Cuts l w → Proper w → Halves l w
 cut-halves (column c) w h o = record {
@@ -34,25 +34,17 @@ cut-halves (column c) w h o = record {
   rear-proper = omega arith;
   fore-meets = λ a i. omega arith;
   rear-meets = λ a i. omega arith;
-  either = λ u v i. side i (decLt u (w .left + c));
+  either = λ u v i. by-lt u (w .left + c) (λ e. inl (omega arith)) (λ e. inr (omega arith));
   not-both = λ u v i j. omega arith;
 }
-  where
-    side : {u v : ℕ} → Inside w u v → Dec (u < w .left + c) → Inside (fore (column c) w) u v ⊎ Inside (rear (column c) w) u v
-    side i (yes e) = inl (omega arith)
-    side i (no e) = inr (omega (arith, lt-of-not-le e))
 cut-halves (row c) w h o = record {
   fore-proper = omega arith;
   rear-proper = omega arith;
   fore-meets = λ a i. omega arith;
   rear-meets = λ a i. omega arith;
-  either = λ u v i. side i (decLt v (w .top + c));
+  either = λ u v i. by-lt v (w .top + c) (λ e. inl (omega arith)) (λ e. inr (omega arith));
   not-both = λ u v i j. omega arith;
 }
-  where
-    side : {u v : ℕ} → Inside w u v → Dec (v < w .top + c) → Inside (fore (row c) w) u v ⊎ Inside (rear (row c) w) u v
-    side i (yes e) = inl (omega arith)
-    side i (no e) = inr (omega (arith, lt-of-not-le e))
 
 module _ (b : ℕ) (bg : List ℕ) (ts : List Tile) (d : Ranked ts) where
   counted : (k : Kind) (w : Rect) (t m : List ℕ) → Room w b t m → ones (area w) (compose k w b bg ts t m .map) ≡ within w (covered ts)
@@ -65,16 +57,19 @@ module _ (b : ℕ) (bg : List ℕ) (ts : List Tile) (d : Ranked ts) where
   unfolding start
   demand3 = record {
     each = λ k. (order-length k ts, λ s m. order-to k ts m, λ s m. order-from k ts m);
-    rises = λ i j h l. rising-at (bottomFirst ts) (sort-rising ts d) i j h (omega (arith, order-length plain ts));
-    falls = λ i j h l. falling-at (reverse (bottomFirst ts)) (reverse-falling (bottomFirst ts) (sort-rising ts d)) i j h (omega (arith, order-length quick ts));
+    rises = λ i j h l. sorted-at (λ a c. a < c) (bottomFirst ts) (sort-rising ts d) i j h (omega (arith, order-length plain ts));
+    falls = λ i j h l.
+        sorted-at (λ a c. c < a) (reverse (bottomFirst ts)) (reverse-falling (bottomFirst ts) (sort-rising ts d)) i j h (omega (arith, order-length quick ts));
     turns = λ k w t m. (
       before-first k w b bg ts t m,
       λ i h. ap (before k w b bg ts t m) (add-one i) ∙ before-next k w b bg ts t m i h,
       before-last k w b bg ts t m,
     );
     plane = λ k w t m r. makes w b bg ts t m r d k;
-    only = λ w t m t₁ m₁ t₂ m₂ r a a′. one-plane b bg ts w t m (record { target = t₁; map = m₁; stored = 0 }) (record { target = t₂; map = m₂; stored = 0 }) r a a′;
-    agree = λ w t m r. one-plane b bg ts w t m (compose plain w b bg ts t m) (compose quick w b bg ts t m) r (makes w b bg ts t m r d plain) (makes w b bg ts t m r d quick);
+    only = λ w t m t₁ m₁ t₂ m₂ r a a′.
+        one-plane b bg ts w t m (record { target = t₁; map = m₁; stored = 0 }) (record { target = t₂; map = m₂; stored = 0 }) r a a′;
+    agree = λ w t m r.
+        one-plane b bg ts w t m (compose plain w b bg ts t m) (compose quick w b bg ts t m) r (makes w b bg ts t m r d plain) (makes w b bg ts t m r d quick);
     covered-is = counted;
     since = λ k w t m r i h p hp. covered-since k w b bg ts t m r p hp i h;
     once = λ w t m r p hp.
@@ -89,7 +84,7 @@ module _ (b : ℕ) (bg : List ℕ) (ts : List Tile) (d : Ranked ts) where
         );
     stores = stored;
     quick-stores = λ w t m r.
-        stored quick w t m ∙ quick-ones w b bg ts t m r (length ts) (le-refl (length ts)) ∙ ap (λ (s : Painting). ones (area w) (s .map)) (before-last quick w b bg ts t m);
+        stored quick w t m ∙ quick-ones w b bg ts t m r (length ts) (le-refl (length ts)) ∙ rw (before-last quick w b bg ts t m);
     plain-stores = λ w t m.
         plain-adds w b (order plain ts) (start w b bg t m)
         ∙ zero-add _

@@ -1,8 +1,7 @@
 -- Laws of `paint`, `mark` and `clear`, byte by byte and bit by bit.
-use mathlib.Core.Path.{_≡_, sym, ap, ap₂, _∙_, subst, fun-ext}
+use mathlib.Core.Path.{_≡_, sym, ap, ap₂, _∙_, fun-ext}
 use Prim.Native.Nat.{ℕ, _+_, _*_, _-_, _/_, _%_, _^_, _≤_, _<_}
-use native.Mathlib.Nat.{lt-of-lt-of-le, lt-of-not-le, zero-div, div-lt-iff-lt-mul, div-add-mod', mod-lt, le-trans, le-add-right, mul-le-mul-right, le-of-suc-le-suc}
-use native.Mathlib.Decide.{decLt}
+use native.Mathlib.Nat.{lt-of-lt-of-le, zero-div, div-lt-iff-lt-mul, div-add-mod', mod-lt, le-trans, le-add-right, mul-le-mul-right}
 use native.Mathlib.Omega.{arith}
 use mathlib.Core.List.{List}
 use mathlib.Core.Bool.{Bool, false, cond, _&&_, _||_}
@@ -13,6 +12,7 @@ use lib.Seq.{ext-getD}
 use borrow.Author.Tests.{lt-ltb, le-ltb}
 use Rattle.plane.specs.Sums.{tab}
 use Rattle.plane.specs.Paint.{bitIn, bit, pack, paint, mark, clear}
+use Rattle.plane.proofs.Tests.{by-lt}
 use Rattle.plane.proofs.SumLaws.{length-tab, getD-tab, tab-ext, tab-getD}
 use Rattle.plane.proofs.BitLaws.{bit-pack, pack-lt, same-bits}
 
@@ -22,12 +22,9 @@ zero-bits i = ap (λ (x : ℕ). eqb (x % 2) 1) (zero-div (2 ^ (7 - i)))
 
 -- a list by index that past `n` is as another: so it is past the end too
 tab-past : (l : List ℕ) (f : ℕ → ℕ) (k : ℕ) → (k < length l → f k ≡ getD l k 0) → getD (tab (length l) f) k 0 ≡ getD l k 0
-tab-past l f k e = go (decLt k (length l))
-  where
-    go : Dec (k < length l) → getD (tab (length l) f) k 0 ≡ getD l k 0
-    go (yes h) = getD-tab (length l) f k h ∙ e h
-    go (no h) =
-        List·getD-eq-default (tab (length l) f) 0 (rw length-tab (omega (arith, lt-of-not-le h))) ∙ sym (List·getD-eq-default l 0 (omega (arith, lt-of-not-le h)))
+tab-past l f k e =
+    by-lt k (length l) (λ h. getD-tab (length l) f k h ∙ e h)
+    (λ h. List·getD-eq-default (tab (length l) f) 0 (rw length-tab h) ∙ sym (List·getD-eq-default l 0 h))
 
 module _ (n b : ℕ) (on : ℕ → Bool) (px : ℕ → ℕ → ℕ) (t : List ℕ) where
   pub paint-length : length (paint n b on px t) ≡ length t
@@ -51,27 +48,28 @@ module _ (n b : ℕ) (on : ℕ → Bool) (px : ℕ → ℕ → ℕ) (t : List �
   -- byte j of pixel p, of any pixel that the list has
   pub paint-pixel : (p j : ℕ) → j < b → p * b + j < length t
       → getD (paint n b on px t) (p * b + j) 0 ≡ cond (ltb p n && on p) (px p j) (getD t (p * b + j) 0)
-  paint-pixel p j hj h = paint-at (p * b + j) h ∙ (rw (digits-div p hj, digits-mod p hj, below (decLt p n)))
+  paint-pixel p j hj h = paint-at (p * b + j) h ∙ (rw (digits-div p hj, digits-mod p hj, below))
     where
-      below : Dec (p < n) → ltb (p * b + j) (n * b) ≡ ltb p n
-      below (yes l) = lt-ltb (p * b + j) (n * b) (digits-lt l hj) ∙ sym (lt-ltb p n l)
-      below (no l) =
-          le-ltb (p * b + j) (n * b) (le-trans (mul-le-mul-right b (le-of-suc-le-suc (lt-of-not-le l))) (le-add-right (p * b) j)) ∙ sym (le-ltb p n (le-of-suc-le-suc (lt-of-not-le l)))
+      below : ltb (p * b + j) (n * b) ≡ ltb p n
+      below =
+          by-lt p n (λ l. rw (lt-ltb p n l, lt-ltb (p * b + j) (n * b) (digits-lt l hj)))
+          (λ l. rw (le-ltb p n l, le-ltb (p * b + j) (n * b) (le-trans (mul-le-mul-right b l) (le-add-right (p * b) j))))
 
   -- a list that at each of its n pixels is as painted, and past them as it was, is the painted one
   pub paint-eq : 1 ≤ b → (t′ : List ℕ) → length t′ ≡ length t
       → ((p j : ℕ) → p < n → j < b → p * b + j < length t → getD t′ (p * b + j) 0 ≡ cond (on p) (px p j) (getD t (p * b + j) 0))
       → ((k : ℕ) → n * b ≤ k → k < length t → getD t′ k 0 ≡ getD t k 0)
       → t′ ≡ paint n b on px t
-  paint-eq hb t′ l e q = ext-getD 0 t′ (paint n b on px t) (l ∙ sym paint-length) (λ k h. go k (rw l at h) (decLt k (n * b)))
+  paint-eq hb t′ l e q =
+      ext-getD 0 t′ (paint n b on px t) (l ∙ sym paint-length)
+      (λ k h. by-lt k (n * b) (in-pixels k (rw l at h)) (λ i. q k i (rw l at h) ∙ sym (paint-past k i)))
     where
-      go : (k : ℕ) → k < length t → Dec (k < n * b) → getD t′ k 0 ≡ getD (paint n b on px t) k 0
-      go k h (yes i) =
-          subst (λ (z : ℕ). z < length t → getD t′ z 0 ≡ getD (paint n b on px t) z 0) (div-add-mod' k b)
-          (λ h. let i′ : k / b < n = div-lt-iff-lt-mul hb .1 i in
-          e (k / b) (k % b) i′ (mod-lt k hb) h ∙ sym (paint-pixel (k / b) (k % b) (mod-lt k hb) h ∙ (rw (lt-ltb (k / b) n i′))))
-          h
-      go k h (no i) = q k (le-of-suc-le-suc (lt-of-not-le i)) h ∙ sym (paint-past k (le-of-suc-le-suc (lt-of-not-le i)))
+      in-pixels : (k : ℕ) → k < length t → k < n * b → getD t′ k 0 ≡ getD (paint n b on px t) k 0
+      in-pixels k h i =
+          let p : k / b < n = div-lt-iff-lt-mul hb .1 i in
+          let j = mod-lt k hb in
+          let z : k / b * b + k % b < length t = rw (div-add-mod' k b) h in
+          rw (div-add-mod' k b) at (e (k / b) (k % b) p j z ∙ sym (paint-pixel (k / b) (k % b) j z ∙ rw (lt-ltb (k / b) n p)))
 
 module _ (n : ℕ) (on : ℕ → Bool) (m : List ℕ) where
   pub mark-length : length (mark n on m) ≡ length m
@@ -92,14 +90,10 @@ module _ (n : ℕ) (on : ℕ → Bool) (m : List ℕ) where
 
   pub mark-bit : (p : ℕ) → p < 8 * length m → bit (mark n on m) p ≡ ((ltb p n && on p) || bit m p)
   unfolding bit
-  mark-bit p h = go (decLt (8 * (p / 8)) n)
-    where
-      go : Dec (8 * (p / 8) < n) → bitIn (getD (mark n on m) (p / 8) 0) (p % 8) ≡ ((ltb p n && on p) || bitIn (getD m (p / 8) 0) (p % 8))
-      go (yes l) =
-          ap (λ (x : ℕ). bitIn x (p % 8)) (mark-in (p / 8) (omega arith) l)
-          ∙ bit-pack _ (p % 8) (omega arith)
-          ∙ ap (λ (q : ℕ). (ltb q n && on q) || bit m q) (omega arith)
-      go (no l) = rw (mark-past (p / 8) (omega (arith, lt-of-not-le l)), le-ltb p n (omega (arith, lt-of-not-le l)))
+  mark-bit p h =
+      by-lt (8 * (p / 8)) n
+      (λ l. let e : 8 * (p / 8) + p % 8 ≡ p = omega arith in rw (mark-in (p / 8) (omega arith) l, bit-pack _ (p % 8) (omega arith), e))
+      (λ l. rw (mark-past (p / 8) l, le-ltb p n (omega arith)))
 
 module _ (n : ℕ) (m : List ℕ) where
   pub clear-length : length (clear n m) ≡ length m
@@ -135,44 +129,40 @@ same-map m m′ l h h′ e =
     ext-getD 0 m m′ l (λ k b. same-bits _ _ (h k) (h′ k) (λ i c. cell k i c m ∙ e (8 * k + i) (omega arith) ∙ sym (cell k i c m′)))
 
 pub mark-bytes : (n : ℕ) (on : ℕ → Bool) (m : List ℕ) → Bytes m → Bytes (mark n on m)
-mark-bytes n on m h k = go (decLt (8 * k) n) (decLt k (length m))
-  where
-    go : Dec (8 * k < n) → Dec (k < length m) → getD (mark n on m) k 0 < 256
-    go (yes a) (yes b) = mark-byte n on m k b a
-    go (no a) d = rw (mark-past n on m k (omega (arith, lt-of-not-le a))) (h k)
-    go (yes a) (no b) = rw (List·getD-eq-default (mark n on m) 0 {n = k} (rw (mark-length n on m) (omega (arith, lt-of-not-le b)))) (omega arith)
+mark-bytes n on m h k =
+    by-lt (8 * k) n
+    (λ a. by-lt k (length m) (λ b. mark-byte n on m k b a)
+    (λ b. rw (List·getD-eq-default (mark n on m) 0 {n = k} (rw (mark-length n on m) b)) (omega arith)))
+    (λ a. rw (mark-past n on m k a) (h k))
 
 -- marking what is set already: the bytes that hold the n bits are packed again, so they have to be bytes
-pub mark-noop : (n : ℕ) (on : ℕ → Bool) (m : List ℕ) → ((k : ℕ) → 8 * k < n → getD m k 0 < 256) → ((p : ℕ) → p < n → (on p || bit m p) ≡ bit m p) → mark n on m ≡ m
+pub mark-noop : (n : ℕ) (on : ℕ → Bool) (m : List ℕ)
+    → ((k : ℕ) → 8 * k < n → getD m k 0 < 256) → ((p : ℕ) → p < n → (on p || bit m p) ≡ bit m p) → mark n on m ≡ m
 unfolding mark
-mark-noop n on m h e = tab-ext (length m) _ _ (λ k _. go k (decLt (8 * k) n)) ∙ sym (tab-getD m)
+mark-noop n on m h e =
+    tab-ext (length m) _ _ (λ k _. by-lt (8 * k) n (byte k) (λ l. rw (le-ltb (8 * k) n l))) ∙ sym (tab-getD m)
   where
-    same : (p : ℕ) → Dec (p < n) → ((ltb p n && on p) || bit m p) ≡ bit m p
-    same p (yes l) = rw (lt-ltb p n l) (e p l)
-    same p (no l) = rw (le-ltb p n (omega (arith, lt-of-not-le l)))
+    same : (p : ℕ) → ((ltb p n && on p) || bit m p) ≡ bit m p
+    same p = by-lt p n (λ l. rw (lt-ltb p n l) (e p l)) (λ l. rw (le-ltb p n l))
 
-    go : (k : ℕ) → Dec (8 * k < n) → cond (ltb (8 * k) n) (pack (λ i. (ltb (8 * k + i) n && on (8 * k + i)) || bit m (8 * k + i))) (getD m k 0) ≡ getD m k 0
-    go k (yes l) =
+    byte : (k : ℕ) → 8 * k < n → cond (ltb (8 * k) n) (pack (λ i. (ltb (8 * k + i) n && on (8 * k + i)) || bit m (8 * k + i))) (getD m k 0) ≡ getD m k 0
+    byte k l =
         rw (lt-ltb (8 * k) n l)
-        (same-bits (pack _) (getD m k 0) (pack-lt _) (h k l) (λ i c. bit-pack _ i c ∙ same (8 * k + i) (decLt (8 * k + i) n) ∙ sym (cell k i c m)))
-    go k (no l) = rw (le-ltb (8 * k) n (omega (arith, lt-of-not-le l)))
+        (same-bits (pack _) (getD m k 0) (pack-lt _) (h k l) (λ i c. bit-pack _ i c ∙ same (8 * k + i) ∙ sym (cell k i c m)))
 
 -- painting nothing
 pub paint-none : (n b : ℕ) (on : ℕ → Bool) (px : ℕ → ℕ → ℕ) (t : List ℕ) → 1 ≤ b → ((p : ℕ) → p < n → on p ≡ false) → paint n b on px t ≡ t
 unfolding paint
-paint-none n b on px t hb e =
-    tab-ext (length t) _ _ (λ k l. go k (decLt k (n * b))) ∙ sym (tab-getD t)
+paint-none n b on px t hb e = tab-ext (length t) _ (λ k. getD t k 0) (λ k _. go k) ∙ sym (tab-getD t)
   where
-    go : (k : ℕ) → Dec (k < n * b) → cond (ltb k (n * b) && on (k / b)) (px (k / b) (k % b)) (getD t k 0) ≡ getD t k 0
-    go k (yes l) = rw (lt-ltb k (n * b) l, e (k / b) (div-lt-iff-lt-mul hb .1 l))
-    go k (no l) = rw (le-ltb k (n * b) (omega (arith, lt-of-not-le l)))
+    go : (k : ℕ) → cond (ltb k (n * b) && on (k / b)) (px (k / b) (k % b)) (getD t k 0) ≡ getD t k 0
+    go k = by-lt k (n * b) (λ l. rw (lt-ltb k (n * b) l, e (k / b) (div-lt-iff-lt-mul hb .1 l))) (λ l. rw (le-ltb k (n * b) l))
 
 -- bits are set as the test says below n, whatever it says past them
 pub mark-ext : (n : ℕ) (on on′ : ℕ → Bool) (m : List ℕ) → ((p : ℕ) → p < n → on p ≡ on′ p) → mark n on m ≡ mark n on′ m
 unfolding mark
 mark-ext n on on′ m e =
-    tab-ext (length m) _ _ (λ k _. ap (λ (f : ℕ → Bool). cond (ltb (8 * k) n) (pack f) (getD m k 0)) (fun-ext (λ i. ap (λ (z : Bool). z || bit m (8 * k + i)) (go (8 * k + i) (decLt (8 * k + i) n)))))
+    tab-ext (length m) _ _ (λ k _. ap (λ (f : ℕ → Bool). cond (ltb (8 * k) n) (pack f) (getD m k 0)) (fun-ext (λ i. rw (same (8 * k + i)))))
   where
-    go : (p : ℕ) → Dec (p < n) → (ltb p n && on p) ≡ (ltb p n && on′ p)
-    go p (yes l) = ap (λ (z : Bool). ltb p n && z) (e p l)
-    go p (no l) = rw (le-ltb p n (omega (arith, lt-of-not-le l)))
+    same : (p : ℕ) → (ltb p n && on p) ≡ (ltb p n && on′ p)
+    same p = by-lt p n (λ l. rw (e p l)) (λ l. rw (le-ltb p n l))

@@ -1,12 +1,11 @@
 -- Demand 2's plane: each composer makes it, it is one alone, its pixels do not depend on the window, its count adds up over a cut.
-use mathlib.Core.Path.{_≡_, refl, sym, ap, ap₂, _∙_, subst, subst₂}
+use mathlib.Core.Path.{_≡_, refl, sym, ap, _∙_}
 use mathlib.Core.Logic.{_⊎_, inl, inr}
 use Prim.Native.Nat.{ℕ, _+_, _*_, _-_, _/_, _%_, _<_}
-use native.Mathlib.Nat.{lt-of-not-le, mod-lt, div-add-mod', div-lt-iff-lt-mul, add-assoc}
-use native.Mathlib.Decide.{decLt}
+use native.Mathlib.Nat.{mod-lt, div-add-mod', div-lt-iff-lt-mul, add-assoc}
 use native.Mathlib.Omega.{arith}
 use mathlib.Core.List.{List}
-use mathlib.Core.Bool.{Bool, true, false, _||_}
+use mathlib.Core.Bool.{Bool, true, false, cond, or-false, and-true}
 use lib.Arith.{digits-lt, digits-div, digits-mod}
 use lib.ListN.{getD}
 use lib.Seq.{ext-getD}
@@ -16,11 +15,13 @@ use Rattle.plane.specs.Paint.{bit, ones}
 use Rattle.plane.specs.Turns.{Painting, Kind, plain, quick, start, order, compose, bottomFirst}
 use Rattle.plane.specs.Demand2.{Top, None, Room, Plane}
 use Rattle.plane.specs.Cuts.{Line, column, row, Cuts, fore, rear, SamePixels}
+use Rattle.plane.proofs.Tests.{by-lt}
 use Rattle.plane.proofs.SumLaws.{sum-ext, sum-plus, sum-rows, sum-add}
 use Rattle.plane.proofs.BitLaws.{same-bits}
 use Rattle.plane.proofs.PaintLaws.{paint-length, paint-in, paint-past, clear-length, clear-past, clear-in, clear-bit, cell}
-use Rattle.plane.proofs.RunLaws.{Kept, run-kept, run-bit, plain-byte, quick-byte, run-bytes}
-use Rattle.plane.proofs.OrderLaws.{covered-mem, covered-none, top-or-none, last-top, first-top, order-top, order-none, sort-rising, reverse-falling}
+use Rattle.plane.proofs.RunLaws.{lastByte, firstByte, Kept, MapBytes, room-same, run-kept, run-bit, plain-byte, quick-byte, run-bytes}
+use Rattle.plane.proofs.OrderLaws.{covered-mem, covered-none, top-or-none, last-top, first-top}
+use Rattle.plane.proofs.OrderLaws.{order-to, order-top, order-none, sort-rising, reverse-falling}
 use Rattle.plane.specs.declared.Rect.{Rect}
 
 -- ---- the start
@@ -28,13 +29,7 @@ use Rattle.plane.specs.declared.Rect.{Rect}
 module _ (w : Rect) (b : ℕ) (bg t m : List ℕ) (r : Room w b t m) where
   pub start-room : Room w b (start w b bg t m .target) (start w b bg t m .map)
   unfolding start
-  start-room = record {
-    wide = r .wide;
-    high = r .high;
-    bytes = r .bytes;
-    target = rw (paint-length (area w) b _ _ t) (r .target);
-    map = rw (clear-length (area w) m) (r .map);
-  }
+  start-room = room-same w b (paint-length (area w) b _ _ t) (clear-length (area w) m) r
 
   pub start-byte : (p j : ℕ) → p < area w → j < b → getD (start w b bg t m .target) (p * b + j) 0 ≡ getD bg j 0
   unfolding start
@@ -44,68 +39,62 @@ module _ (w : Rect) (b : ℕ) (bg t m : List ℕ) (r : Room w b t m) where
   unfolding start
   start-bit p hp = clear-bit (area w) m p (omega (arith, r .map)) (omega arith)
 
+  pub start-bytes : MapBytes w (start w b bg t m .map)
+  unfolding start
+  start-bytes i l = rw (clear-in (area w) m i (omega (arith, r .map)) l) (omega arith)
+
 -- ---- each composer makes the plane
 
 module _ (w : Rect) (b : ℕ) (bg : List ℕ) (ts : List Tile) (t m : List ℕ) (r : Room w b t m) (d : Ranked ts) where
-  at-bit : (k : Kind) (p : ℕ) → p < area w → bit (compose k w b bg ts t m .map) p ≡ (covered (order k ts) (colOf w p) (rowOf w p) || false)
-  at-bit k p hp =
-      run-bit w b p hp k (order k ts) (start w b bg t m) (start-room w b bg t m r)
-      ∙ ap (λ (x : Bool). covered (order k ts) (colOf w p) (rowOf w p) || x) (start-bit w b bg t m r p (omega arith))
+  -- the byte that the tiles give in a composer's order
+  abbrev given : Kind → ℕ → ℕ → ℕ → ℕ
+  given plain u v j = lastByte (order plain ts) u v j
+  given quick u v j = firstByte (order quick ts) u v j
 
-  given-byte : (k : Kind) (p : ℕ) → p < area w → (s : Tile) → Top ts (colOf w p) (rowOf w p) s → (j : ℕ) → j < b
-      → getD (compose k w b bg ts t m .target) (p * b + j) 0 ≡ s .byte (colOf w p) (rowOf w p) j
-  given-byte plain p hp s o j hj =
-      plain-byte w b p hp j hj (order plain ts) (start w b bg t m) (start-room w b bg t m r)
-      ∙ (rw (covered-mem (colOf w p) (rowOf w p) (order plain ts) (order-top (colOf w p) (rowOf w p) plain ts s o .chosen) (o .gives))
-      (last-top (colOf w p) (rowOf w p) j (order plain ts) (sort-rising ts d) s (order-top (colOf w p) (rowOf w p) plain ts s o)))
-  given-byte quick p hp s o j hj =
-      quick-byte w b p hp j hj (order quick ts) (start w b bg t m) (start-room w b bg t m r)
-      ∙ (rw (
-        covered-mem (colOf w p) (rowOf w p) (order quick ts) (order-top (colOf w p) (rowOf w p) quick ts s o .chosen) (o .gives),
+  given-top : (k : Kind) (u v j : ℕ) (s : Tile) → Top ts u v s → given k u v j ≡ s .byte u v j
+  given-top plain u v j s o = last-top u v j (order plain ts) (sort-rising ts d) s (order-top u v plain ts s o)
+  given-top quick u v j s o = first-top u v j (order quick ts) (reverse-falling (bottomFirst ts) (sort-rising ts d)) s (order-top u v quick ts s o)
+
+  at-byte : (k : Kind) (p : ℕ) → p < area w → (j : ℕ) → j < b
+      → getD (compose k w b bg ts t m .target) (p * b + j) 0
+      ≡ cond (covered (order k ts) (colOf w p) (rowOf w p)) (given k (colOf w p) (rowOf w p) j) (getD bg j 0)
+  at-byte plain p hp j hj =
+      rw (plain-byte w b p hp j hj (order plain ts) (start w b bg t m) (start-room w b bg t m r), start-byte w b bg t m r p j hp hj)
+  at-byte quick p hp j hj =
+      rw (
+        quick-byte w b p hp j hj (order quick ts) (start w b bg t m) (start-room w b bg t m r),
         start-bit w b bg t m r p (omega arith),
+        and-true,
+        start-byte w b bg t m r p j hp hj,
       )
-      (first-top (colOf w p) (rowOf w p) j (order quick ts) (reverse-falling (bottomFirst ts) (sort-rising ts d)) s (order-top (colOf w p) (rowOf w p) quick ts s o)))
 
-  ground-byte : (k : Kind) (p : ℕ) → p < area w → None ts (colOf w p) (rowOf w p) → (j : ℕ) → j < b
-      → getD (compose k w b bg ts t m .target) (p * b + j) 0 ≡ getD bg j 0
-  ground-byte plain p hp n j hj =
-      plain-byte w b p hp j hj (order plain ts) (start w b bg t m) (start-room w b bg t m r)
-      ∙ (rw (covered-none (colOf w p) (rowOf w p) (order plain ts) (order-none (colOf w p) (rowOf w p) plain ts n)) (start-byte w b bg t m r p j hp hj))
-  ground-byte quick p hp n j hj =
-      quick-byte w b p hp j hj (order quick ts) (start w b bg t m) (start-room w b bg t m r)
-      ∙ (rw (covered-none (colOf w p) (rowOf w p) (order quick ts) (order-none (colOf w p) (rowOf w p) quick ts n)) (start-byte w b bg t m r p j hp hj))
+  module _ (k : Kind) (p : ℕ) (hp : p < area w) where
+    at-bit : bit (compose k w b bg ts t m .map) p ≡ covered (order k ts) (colOf w p) (rowOf w p)
+    at-bit = rw (run-bit w b p hp k (order k ts) (start w b bg t m) (start-room w b bg t m r), start-bit w b bg t m r p (omega arith)) (or-false _)
 
-  at-given : (k : Kind) (p : ℕ) → p < area w → (s : Tile) → Top ts (colOf w p) (rowOf w p) s
-      → ((j : ℕ) → j < b → getD (compose k w b bg ts t m .target) (p * b + j) 0 ≡ s .byte (colOf w p) (rowOf w p) j) × (bit (compose k w b bg ts t m .map) p ≡ true)
-  at-given k p hp s o = (
-    given-byte k p hp s o,
-    at-bit k p hp ∙ (rw (covered-mem (colOf w p) (rowOf w p) (order k ts) (order-top (colOf w p) (rowOf w p) k ts s o .chosen) (o .gives))),
-  )
+    at-given : (s : Tile) → Top ts (colOf w p) (rowOf w p) s
+        → ((j : ℕ) → j < b → getD (compose k w b bg ts t m .target) (p * b + j) 0 ≡ s .byte (colOf w p) (rowOf w p) j)
+        × (bit (compose k w b bg ts t m .map) p ≡ true)
+    at-given s o =
+        let e = covered-mem (colOf w p) (rowOf w p) (order k ts) (order-to k ts (o .chosen)) (o .gives) in
+        (λ j hj. at-byte k p hp j hj ∙ rw e (given-top k (colOf w p) (rowOf w p) j s o), at-bit ∙ e)
 
-  at-ground : (k : Kind) (p : ℕ) → p < area w → None ts (colOf w p) (rowOf w p)
-      → ((j : ℕ) → j < b → getD (compose k w b bg ts t m .target) (p * b + j) 0 ≡ getD bg j 0) × (bit (compose k w b bg ts t m .map) p ≡ false)
-  at-ground k p hp n = (
-    ground-byte k p hp n,
-    at-bit k p hp ∙ (rw (covered-none (colOf w p) (rowOf w p) (order k ts) (order-none (colOf w p) (rowOf w p) k ts n))),
-  )
+    at-ground : None ts (colOf w p) (rowOf w p)
+        → ((j : ℕ) → j < b → getD (compose k w b bg ts t m .target) (p * b + j) 0 ≡ getD bg j 0)
+        × (bit (compose k w b bg ts t m .map) p ≡ false)
+    at-ground n =
+        let e = covered-none (colOf w p) (rowOf w p) (order k ts) (order-none (colOf w p) (rowOf w p) k ts n) in
+        (λ j hj. at-byte k p hp j hj ∙ rw e, at-bit ∙ e)
 
   pub makes : (k : Kind) → Plane w b bg ts t m (compose k w b bg ts t m .target) (compose k w b bg ts t m .map)
   unfolding start
   makes k = record {
     target-length = kept .target-length ∙ paint-length (area w) b _ _ t;
     map-length = kept .map-length ∙ clear-length (area w) m;
-    given = λ x y hx hy s.
-        subst₂ (λ (u v : ℕ). Top ts u v s
-        → ((j : ℕ) → j < b → getD (compose k w b bg ts t m .target) ((y * w .width + x) * b + j) 0 ≡ s .byte u v j) × (bit (compose k w b bg ts t m .map) (y * w .width + x) ≡ true))
-        (ap (λ (i : ℕ). w .left + i) (digits-mod y hx)) (ap (λ (i : ℕ). w .top + i) (digits-div y hx))
-        (at-given k (y * w .width + x) (digits-lt hy hx) s);
-    ground = λ x y hx hy.
-        subst₂ (λ (u v : ℕ). None ts u v
-        → ((j : ℕ) → j < b → getD (compose k w b bg ts t m .target) ((y * w .width + x) * b + j) 0 ≡ getD bg j 0) × (bit (compose k w b bg ts t m .map) (y * w .width + x) ≡ false))
-        (ap (λ (i : ℕ). w .left + i) (digits-mod y hx)) (ap (λ (i : ℕ). w .top + i) (digits-div y hx))
-        (at-ground k (y * w .width + x) (digits-lt hy hx));
+    given = λ x y hx hy. simp (digits-mod y hx, digits-div y hx) at (at-given k (y * w .width + x) (digits-lt hy hx));
+    ground = λ x y hx hy. simp (digits-mod y hx, digits-div y hx) at (at-ground k (y * w .width + x) (digits-lt hy hx));
     unused = λ p h l. kept .unused p h (rw (clear-length (area w) m) (omega (arith, r .map))) ∙ start-bit w b bg t m r p l;
-    byte = run-bytes w b k (order k ts) (start w b bg t m) (start-room w b bg t m r) (λ i l. rw (clear-in (area w) m i (omega (arith, r .map)) l) (omega arith));
+    byte = run-bytes w b k (order k ts) (start w b bg t m) (start-room w b bg t m r) (start-bytes w b bg t m r);
     target-past = λ i h. kept .target-past i h ∙ paint-past (area w) b _ _ t i h;
     map-past = λ i h. kept .map-past i h ∙ clear-past (area w) m i h;
   }
@@ -125,46 +114,42 @@ module _ (b : ℕ) (bg : List ℕ) (ts : List Tile) where
           × (bit (s .map) (y * w .width + x) ≡ bit (s′ .map) (y′ * w′ .width + x′))
       go (inl (q, o)) =
           let g = a .given x y hx hy q o in
-          let g′ = a′ .given x′ y′ hx′ hy′ q (subst₂ (λ (u v : ℕ). Top ts u v q) eu ev o) in
-          (λ j h. g .0 j h ∙ ap₂ (λ (u v : ℕ). q .byte u v j) eu ev ∙ sym (g′ .0 j h), g .1 ∙ sym (g′ .1))
+          let g′ = a′ .given x′ y′ hx′ hy′ q (rw (eu, ev) at o) in
+          (λ j h. g .0 j h ∙ rw (eu, ev) (sym (g′ .0 j h)), g .1 ∙ sym (g′ .1))
       go (inr n) =
           let g = a .ground x y hx hy n in
-          let g′ = a′ .ground x′ y′ hx′ hy′ (subst₂ (λ (u v : ℕ). None ts u v) eu ev n) in
+          let g′ = a′ .ground x′ y′ hx′ hy′ (rw (eu, ev) at n) in
           (λ j h. g .0 j h ∙ sym (g′ .0 j h), g .1 ∙ sym (g′ .1))
 
   -- and the plane of one window is one alone
   pub one-plane : (w : Rect) (t m : List ℕ) (s s′ : Painting) → Room w b t m
       → Plane w b bg ts t m (s .target) (s .map) → Plane w b bg ts t m (s′ .target) (s′ .map) → (s .target ≡ s′ .target) × (s .map ≡ s′ .map)
   one-plane w t m s s′ r a a′ = (
-    ext-getD 0 (s .target) (s′ .target) (a .target-length ∙ sym (a′ .target-length)) (λ k _. bytes k (decLt k (area w * b))),
-    ext-getD 0 (s .map) (s′ .map) (a .map-length ∙ sym (a′ .map-length)) (λ k _. cells k (decLt (8 * k) (area w))),
+    ext-getD 0 (s .target) (s′ .target) (a .target-length ∙ sym (a′ .target-length))
+        (λ k _. by-lt k (area w * b) (byte k) (λ h. a .target-past k h ∙ sym (a′ .target-past k h))),
+    ext-getD 0 (s .map) (s′ .map) (a .map-length ∙ sym (a′ .map-length))
+        (λ k _. by-lt (8 * k) (area w) (cells k) (λ h. a .map-past k h ∙ sym (a′ .map-past k h))),
   )
     where
       number : (p : ℕ) → p < area w
           → ((j : ℕ) → j < b → getD (s .target) (p * b + j) 0 ≡ getD (s′ .target) (p * b + j) 0) × (bit (s .map) p ≡ bit (s′ .map) p)
       number p hp =
-          subst (λ (q : ℕ). ((j : ℕ) → j < b → getD (s .target) (q * b + j) 0 ≡ getD (s′ .target) (q * b + j) 0) × (bit (s .map) q ≡ bit (s′ .map) q))
-          (div-add-mod' p (w .width))
-          (same-pixels w w t m t m s s′ a a′ (p % w .width) (p / w .width) (p % w .width) (p / w .width) (mod-lt p (r .wide)) hy (mod-lt p (r .wide)) hy refl refl)
-        where
-          hy : p / w .width < w .height
-          hy = div-lt-iff-lt-mul (r .wide) .1 hp
+          let hx = mod-lt p (r .wide) in
+          let hy : p / w .width < w .height = div-lt-iff-lt-mul (r .wide) .1 hp in
+          let x = p % w .width in
+          let y = p / w .width in
+          rw (div-add-mod' p (w .width)) at (same-pixels w w t m t m s s′ a a′ x y x y hx hy hx hy refl refl)
 
-      bytes : (k : ℕ) → Dec (k < area w * b) → getD (s .target) k 0 ≡ getD (s′ .target) k 0
-      bytes k (yes h) =
-          subst (λ (q : ℕ). getD (s .target) q 0 ≡ getD (s′ .target) q 0) (div-add-mod' k b)
-          (number (k / b) (div-lt-iff-lt-mul (r .bytes) .1 h) .0 (k % b) (mod-lt k (r .bytes)))
-      bytes k (no h) = a .target-past k (omega (arith, lt-of-not-le h)) ∙ sym (a′ .target-past k (omega (arith, lt-of-not-le h)))
+      byte : (k : ℕ) → k < area w * b → getD (s .target) k 0 ≡ getD (s′ .target) k 0
+      byte k h = rw (div-add-mod' k b) at (number (k / b) (div-lt-iff-lt-mul (r .bytes) .1 h) .0 (k % b) (mod-lt k (r .bytes)))
 
-      at : (p : ℕ) → p < 8 * ((area w + 7) / 8) → Dec (p < area w) → bit (s .map) p ≡ bit (s′ .map) p
-      at p l (yes h) = number p h .1
-      at p l (no h) = a .unused p (omega (arith, lt-of-not-le h)) l ∙ sym (a′ .unused p (omega (arith, lt-of-not-le h)) l)
+      at : (p : ℕ) → p < 8 * ((area w + 7) / 8) → bit (s .map) p ≡ bit (s′ .map) p
+      at p l = by-lt p (area w) (λ h. number p h .1) (λ h. a .unused p h l ∙ sym (a′ .unused p h l))
 
-      cells : (k : ℕ) → Dec (8 * k < area w) → getD (s .map) k 0 ≡ getD (s′ .map) k 0
-      cells k (yes h) =
+      cells : (k : ℕ) → 8 * k < area w → getD (s .map) k 0 ≡ getD (s′ .map) k 0
+      cells k h =
           same-bits (getD (s .map) k 0) (getD (s′ .map) k 0) (a .byte k h) (a′ .byte k h)
-          (λ i l. cell k i l (s .map) ∙ at (8 * k + i) (omega arith) (decLt (8 * k + i) (area w)) ∙ sym (cell k i l (s′ .map)))
-      cells k (no h) = a .map-past k (omega (arith, lt-of-not-le h)) ∙ sym (a′ .map-past k (omega (arith, lt-of-not-le h)))
+          (λ i l. cell k i l (s .map) ∙ at (8 * k + i) (omega arith) ∙ sym (cell k i l (s′ .map)))
 
   -- ---- its count
 

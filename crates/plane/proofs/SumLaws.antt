@@ -1,5 +1,5 @@
 -- Laws of `sum` and `tab`.
-use mathlib.Core.Path.{_≡_, refl, sym, ap, ap₂, _∙_}
+use mathlib.Core.Path.{_≡_, refl, sym, ap, _∙_}
 use Prim.Native.Nat.{ℕ, zero, suc, _+_, _*_, _≤_, _<_, suc-le-suc}
 use native.Mathlib.Nat.{le-of-suc-le-suc, not-suc-le-zero, zero-lt-suc, add-zero, add-suc, zero-mul, suc-mul, lt-suc-self, le-step, suc-ne-zero, suc-inj}
 use native.Mathlib.Omega.{arith}
@@ -17,7 +17,7 @@ one-le false = omega arith
 pub sum-ext : (n : ℕ) (f g : ℕ → ℕ) → ((i : ℕ) → i < n → f i ≡ g i) → sum n f ≡ sum n g
 unfolding sum
 sum-ext zero f g e = refl
-sum-ext (suc n) f g e = ap₂ (λ (a b : ℕ). a + b) (sum-ext n f g (λ i h. e i (le-step h))) (e n (lt-suc-self n))
+sum-ext (suc n) f g e = rw (sum-ext n f g (λ i h. e i (le-step h)), e n (lt-suc-self n))
 
 pub sum-plus : (n : ℕ) (f g : ℕ → ℕ) → sum n (λ i. f i + g i) ≡ sum n f + sum n g
 unfolding sum
@@ -50,9 +50,8 @@ count-le (suc n) f = omega (arith, count-le n f, one-le (f n))
 -- by rows of w
 pub sum-rows : (h w : ℕ) (f : ℕ → ℕ) → sum (h * w) f ≡ sum h (λ y. sum w (λ x. f (y * w + x)))
 unfolding sum
-sum-rows zero w f = ap (λ (k : ℕ). sum k f) (zero-mul w)
-sum-rows (suc h) w f =
-    ap (λ (k : ℕ). sum k f) (suc-mul h w) ∙ sum-add (h * w) w f ∙ ap (λ (k : ℕ). k + sum w (λ x. f (h * w + x))) (sum-rows h w f)
+sum-rows zero w f = rw (zero-mul w)
+sum-rows (suc h) w f = rw (suc-mul h w, sum-add (h * w) w f, sum-rows h w f)
 
 -- ---- lists by index
 
@@ -70,7 +69,7 @@ getD-tab (suc n) f (suc k) h = getD-tab n (λ i. f (suc i)) k (le-of-suc-le-suc 
 pub tab-ext : (n : ℕ) (f g : ℕ → ℕ) → ((k : ℕ) → k < n → f k ≡ g k) → tab n f ≡ tab n g
 unfolding tab
 tab-ext zero f g e = refl
-tab-ext (suc n) f g e = ap₂ (λ (x : ℕ) (l : List ℕ). x ∷ l) (e 0 (zero-lt-suc n)) (tab-ext n (λ k. f (suc k)) (λ k. g (suc k)) (λ k h. e (suc k) (suc-le-suc h)))
+tab-ext (suc n) f g e = rw (e 0 (zero-lt-suc n), tab-ext n (λ k. f (suc k)) (λ k. g (suc k)) (λ k h. e (suc k) (suc-le-suc h)))
 
 -- a list is what its elements make
 pub tab-getD : (l : List ℕ) → l ≡ tab (length l) (λ k. getD l k 0)
@@ -83,7 +82,7 @@ pub tab-set : (n : ℕ) (f g : ℕ → ℕ) (j v : ℕ) → j < n → v ≡ g j 
 unfolding tab
 tab-set zero f g j v h e r = absurd (not-suc-le-zero h)
 tab-set (suc n) f g zero v h e r =
-    ap₂ (λ (x : ℕ) (l : List ℕ). x ∷ l) e (tab-ext n (λ k. f (suc k)) (λ k. g (suc k)) (λ k l. r (suc k) (suc-le-suc l) (λ q. suc-ne-zero k q)))
+    rw (e, tab-ext n (λ k. f (suc k)) (λ k. g (suc k)) (λ k l. r (suc k) (suc-le-suc l) (λ q. suc-ne-zero k q)))
 tab-set (suc n) f g (suc j) v h e r =
-    ap₂ (λ (x : ℕ) (l : List ℕ). x ∷ l) (r 0 (zero-lt-suc n) (λ q. suc-ne-zero j (sym q)))
-    (tab-set n (λ k. f (suc k)) (λ k. g (suc k)) j v (le-of-suc-le-suc h) e (λ k l q. r (suc k) (suc-le-suc l) (λ z. q (suc-inj z))))
+    let rest = tab-set n (λ k. f (suc k)) (λ k. g (suc k)) j v (le-of-suc-le-suc h) e (λ k l q. r (suc k) (suc-le-suc l) (λ z. q (suc-inj z))) in
+    rw (r 0 (zero-lt-suc n) (λ q. suc-ne-zero j (sym q)), rest)

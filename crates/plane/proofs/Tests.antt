@@ -1,14 +1,12 @@
 -- Tests: by their two values, and a bound one greater.
 use mathlib.Core.Path.{_≡_, refl, sym, _∙_}
-use Prim.Native.Nat.{ℕ, _+_, _<_}
-use native.Mathlib.Nat.{lt-of-not-le}
-use native.Mathlib.Decide.{decLt}
+use Prim.Native.Nat.{ℕ, _+_, _≤_, _<_}
 use native.Mathlib.Omega.{arith}
 use mathlib.Core.Bool.{Bool, true, false, cond}
 use lib.Dec.{ltb}
-use borrow.Author.Tests.{lt-ltb, le-ltb}
+use borrow.Author.Tests.{lt-ltb, le-ltb, ltb-true, ltb-false}
 
--- a fact of each of the two values of a test
+-- a fact of each of the two values of a test, and from each of two orders
 pub cond-case {ℓ} : {A : Type 0} (P : A → Type ℓ) (c : Bool) {x y : A} → (c ≡ true → P x) → (c ≡ false → P y) → P (cond c x y)
 cond-case P true f g = f refl
 cond-case P false f g = g refl
@@ -17,10 +15,10 @@ pub by-bool {ℓ} : {P : Type ℓ} (c : Bool) → (c ≡ true → P) → (c ≡ 
 by-bool true f g = f refl
 by-bool false f g = g refl
 
+pub by-lt {ℓ} : {P : Type ℓ} (k n : ℕ) → (k < n → P) → (n ≤ k → P) → P
+by-lt k n f g = by-bool (ltb k n) (λ e. f (ltb-true k n e)) (λ e. g (ltb-false k n e))
+
 -- below j, and below j + 1, are the same but for j
 pub ltb-next : (k j : ℕ) → (k ≡ j → ⊥) → ltb k j ≡ ltb k (j + 1)
-ltb-next k j n = go (decLt k j)
-  where
-    go : Dec (k < j) → ltb k j ≡ ltb k (j + 1)
-    go (yes h) = lt-ltb k j h ∙ sym (lt-ltb k (j + 1) (omega arith))
-    go (no h) = le-ltb k j (omega (arith, lt-of-not-le h)) ∙ sym (le-ltb k (j + 1) (omega (arith, lt-of-not-le h)))
+ltb-next k j n =
+    by-lt k j (λ h. lt-ltb k j h ∙ sym (lt-ltb k (j + 1) (omega arith))) (λ h. le-ltb k j h ∙ sym (le-ltb k (j + 1) (omega arith)))

@@ -1,5 +1,5 @@
 -- The turns of a whole run, by number.
-use mathlib.Core.Path.{_≡_, refl, sym, ap, _∙_}
+use mathlib.Core.Path.{_≡_, refl, sym, ap}
 use Prim.Native.Nat.{ℕ, zero, suc, _+_, _≤_, _<_}
 use native.Mathlib.Nat.{add-zero}
 use native.Mathlib.Omega.{arith}
@@ -12,9 +12,9 @@ use borrow.Author.Tests.{lt-ltb}
 use Rattle.plane.specs.Sums.{one, sum, count}
 use Rattle.plane.specs.Tiles.{Tile, area}
 use Rattle.plane.specs.Paint.{bit, ones}
-use Rattle.plane.specs.Turns.{Painting, Kind, quick, turn, run, start, order, compose, noTile, turnTile, before, gave, added}
+use Rattle.plane.specs.Turns.{Kind, quick, turn, run, start, order, compose, noTile, turnTile, before, gave, added}
 use Rattle.plane.specs.Demand2.{Room}
-use Rattle.plane.proofs.SumLaws.{sum-ext, sum-zero}
+use Rattle.plane.proofs.SumLaws.{count-none}
 use Rattle.plane.proofs.RunLaws.{room-kept, run-kept, run-append, turn-bit, quick-one, quick-adds}
 use Rattle.plane.proofs.OrderLaws.{order-length}
 use Rattle.plane.proofs.PlaneLaws.{start-room, start-bit}
@@ -35,14 +35,12 @@ module _ (k : Kind) (w : Rect) (b : ℕ) (bg : List ℕ) (ts : List Tile) (t m :
   pub before-next : (i : ℕ) → i < length ts → before k w b bg ts t m (suc i) ≡ turn k w b (turnTile k ts i) (before k w b bg ts t m i)
   unfolding before run
   before-next i h =
-      ap (λ (l : List Tile). run k w b l (start w b bg t m)) (take-suc (order k ts) i noTile (rw (order-length k ts) h))
-      ∙ run-append k w b (take i (order k ts)) (turnTile k ts i ∷ []) (start w b bg t m)
+      rw (take-suc (order k ts) i noTile (rw (order-length k ts) h))
+      (run-append k w b (take i (order k ts)) (turnTile k ts i ∷ []) (start w b bg t m))
 
   pub before-last : before k w b bg ts t m (length ts) ≡ compose k w b bg ts t m
   unfolding before
-  before-last =
-      ap (λ (n : ℕ). run k w b (take n (order k ts)) (start w b bg t m)) (sym (order-length k ts))
-      ∙ ap (λ (l : List Tile). run k w b l (start w b bg t m)) (take-length (order k ts))
+  before-last = rw (← order-length k ts, take-length)
 
   pub before-room : Room w b t m → (i : ℕ) → Room w b (before k w b bg ts t m i .target) (before k w b bg ts t m i .map)
   unfolding before
@@ -52,40 +50,33 @@ module _ (k : Kind) (w : Rect) (b : ℕ) (bg : List ℕ) (ts : List Tile) (t m :
 
   pub before-stored : (i : ℕ) → i ≤ length ts → before k w b bg ts t m i .stored ≡ sum i (added k w b bg ts t m)
   unfolding sum start turn
-  before-stored zero h = ap (λ (s : Painting). s .stored) before-first
-  before-stored (suc i) h = ap (λ (s : Painting). s .stored) (before-next i h) ∙ ap (λ (n : ℕ). n + added k w b bg ts t m i) (before-stored i (omega arith))
+  before-stored zero h = rw before-first
+  before-stored (suc i) h = rw (before-next i h, before-stored i (omega arith))
 
   -- ---- since when a pixel is covered
 
   pub covered-since : Room w b t m → (p : ℕ) → p < area w → (i : ℕ) → i ≤ length ts
       → bit (before k w b bg ts t m i .map) p ≡ ltb 0 (count i (λ j. gave k w b bg ts t m j p))
   unfolding sum
-  covered-since r p hp zero h = ap (λ (s : Painting). bit (s .map) p) before-first ∙ start-bit w b bg t m r p (omega arith)
+  covered-since r p hp zero h = rw before-first (start-bit w b bg t m r p (omega arith))
   covered-since r p hp (suc i) h =
-      ap (λ (s : Painting). bit (s .map) p) (before-next i h)
-      ∙ turn-bit w b p hp k (turnTile k ts i) (before k w b bg ts t m i) (before-room r i)
-      ∙ ap (λ (x : Bool). gave k w b bg ts t m i p || x) (covered-since r p hp i (omega arith))
-      ∙ since-more (gave k w b bg ts t m i p) _
+      rw (before-next i h, turn-bit w b p hp k (turnTile k ts i) (before k w b bg ts t m i) (before-room r i), covered-since r p hp i (omega arith))
+      (since-more (gave k w b bg ts t m i p) _)
 
 module _ (w : Rect) (b : ℕ) (bg : List ℕ) (ts : List Tile) (t m : List ℕ) (r : Room w b t m) where
   -- the quick composer's map bit counts the turns that gave the pixel
   pub quick-times : (p : ℕ) → p < area w → (i : ℕ) → i ≤ length ts
       → count i (λ j. gave quick w b bg ts t m j p) ≡ one (bit (before quick w b bg ts t m i .map) p)
   unfolding sum
-  quick-times p hp zero h = sym (ap one (ap (λ (s : Painting). bit (s .map) p) (before-first quick w b bg ts t m) ∙ start-bit w b bg t m r p (omega arith)))
+  quick-times p hp zero h = rw (before-first quick w b bg ts t m, start-bit w b bg t m r p (omega arith))
   quick-times p hp (suc i) h =
-      ap (λ (n : ℕ). n + one (gave quick w b bg ts t m i p)) (quick-times p hp i (omega arith))
-      ∙ sym (ap (λ (s : Painting). one (bit (s .map) p)) (before-next quick w b bg ts t m i h)
-      ∙ quick-one w b p hp (turnTile quick ts i) (before quick w b bg ts t m i) (before-room quick w b bg ts t m r i))
+      rw (quick-times p hp i (omega arith), before-next quick w b bg ts t m i h)
+      (sym (quick-one w b p hp (turnTile quick ts i) (before quick w b bg ts t m i) (before-room quick w b bg ts t m r i)))
 
   -- and its ones count what they added
   pub quick-ones : (i : ℕ) → i ≤ length ts → sum i (added quick w b bg ts t m) ≡ ones (area w) (before quick w b bg ts t m i .map)
   unfolding sum
-  quick-ones zero h =
-      sym (ap (λ (s : Painting). ones (area w) (s .map)) (before-first quick w b bg ts t m)
-      ∙ sum-ext (area w) _ (λ p. 0) (λ p hp. ap one (start-bit w b bg t m r p (omega arith)))
-      ∙ sum-zero (area w))
+  quick-ones zero h = rw (before-first quick w b bg ts t m) (sym (count-none (area w) _ (λ p hp. start-bit w b bg t m r p (omega arith))))
   quick-ones (suc i) h =
-      ap (λ (n : ℕ). n + added quick w b bg ts t m i) (quick-ones i (omega arith))
-      ∙ sym (ap (λ (s : Painting). ones (area w) (s .map)) (before-next quick w b bg ts t m i h)
-      ∙ quick-adds w b (turnTile quick ts i) (before quick w b bg ts t m i) (before-room quick w b bg ts t m r i))
+      rw (quick-ones i (omega arith), before-next quick w b bg ts t m i h)
+      (sym (quick-adds w b (turnTile quick ts i) (before quick w b bg ts t m i) (before-room quick w b bg ts t m r i)))

@@ -5,7 +5,7 @@ use Rattle.czi.proofs.figures.box_numbers.Statement.{statement}
 use Rattle.czi.proofs.figures.box_numbers.Tie as tie
 
 returns : tie.Need-returns
-returns c = rw (read-back (c .before .b .given .0 .0) (c .known-told .given .0 .1), read-back (c .before .b .given .0 .1 .0) (c .known-told .given .1 .0 .1), read-back (c .before .b .given .0 .1 .1 .0) (c .known-told .given .1 .1 .0 .1), read-back (c .before .b .given .0 .1 .1 .1 .0) (c .known-told .given .1 .1 .1 .0 .1), c .before .b .given .1)
+returns c = let z = c .known-told .given in simp (read-back, z .0 .1, z .1 .0 .1, z .1 .1 .0 .1, z .1 .1 .1 .0 .1, c .before .b .given .1)
 
 pub box-numbers-spec : {M : Type 1} → statement M
 box-numbers-spec =

@@ -6,14 +6,6 @@ use borrow.Author.Needs.{needs}
 use Rattle.czi.proofs.figures.czi_summary.Statement.{statement}
 use Rattle.czi.proofs.figures.czi_summary.Tie as tie
 
-returns : tie.Need-returns
-returns c =
-    let k = c .before .before .before .before .before .before in
-    let z = c .before .before .struct-told4 .given .1 in
-    summary-out (c .number-of .ensures) (c .before .place-of .ensures) (k .before .before .before .summarize .ensures)
-    (k .before .before .summary-verdict .ensures) (k .before .summary-in .ensures) (k .box-numbers .ensures)
-    (read-back _ (z .0 .1)) (read-back _ (z .1 .0 .1)) (read-back _ (z .1 .1 .0 .1)) (read-back _ (z .1 .1 .1 .0 .1))
-
 pub czi-summary-spec : {M : Type 1} → statement M
 czi-summary-spec =
     tie.close
@@ -24,4 +16,4 @@ czi-summary-spec =
     (λ c κs. search needs)
     (λ c κs. search needs)
     (λ c κs. search (summary-low, verdict-low))
-    returns)
+    (λ c. search (summary-out, read-back)))

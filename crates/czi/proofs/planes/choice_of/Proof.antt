@@ -8,13 +8,6 @@ returns : tie.Need-returns
 unfolding choiceOf
 returns c = search flags depth 8
 
-returns-2 : tie.Need-returns-2
-unfolding choiceOf
-returns-2 c = search flags depth 8
-
-returns-3 : tie.Need-returns-3
-unfolding choiceOf
-returns-3 c = search flags depth 8
-
 pub choice-of-spec : {M : Type 1} → statement M
-choice-of-spec = tie.close (tie.spec returns returns-2 returns-3)
+unfolding choiceOf
+choice-of-spec = tie.close (tie.spec returns (λ c. search flags depth 8) (λ c. search flags depth 8))

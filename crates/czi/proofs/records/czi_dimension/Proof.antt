@@ -6,12 +6,6 @@ use borrow.Author.Needs.{needs}
 use Rattle.czi.proofs.records.czi_dimension.Statement.{statement}
 use Rattle.czi.proofs.records.czi_dimension.Tie as tie
 
-returns : tie.Need-returns
-returns c =
-    dimension-out (c .number-of .ensures) (c .before .place-of .ensures) (c .before .before .before .before .before .dimension .ensures)
-    (c .before .before .before .before .dimension-verdict .ensures) (c .before .before .before .dimension-in .ensures)
-    (read-back _ (c .before .before .struct-told .given .1 .0 .1))
-
 pub czi-dimension-spec : {M : Type 1} → statement M
 czi-dimension-spec =
     tie.close
@@ -21,4 +15,4 @@ czi-dimension-spec =
     (λ c κs. search needs)
     (λ c κs. search needs)
     (λ c κs. search (dimension-in-low, dimension-low))
-    returns)
+    (λ c. search (dimension-out, read-back)))

@@ -5,6 +5,9 @@ use borrow.Author.Needs.{needs}
 use Rattle.czi.proofs.records.czi_tile.Statement.{statement}
 use Rattle.czi.proofs.records.czi_tile.Tie as tie
 
+returns : tie.Need-returns
+returns c = search tile-refused-out
+
 pub czi-tile-spec : {M : Type 1} → statement M
 czi-tile-spec =
     tie.close
@@ -16,5 +19,5 @@ czi-tile-spec =
     (λ c. search needs)
     (λ c κs. search needs)
     (λ c κs. search needs)
-    (λ c. search tile-refused-out)
+    returns
     (λ c. search tile-found-out))

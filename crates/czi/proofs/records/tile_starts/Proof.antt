@@ -7,7 +7,9 @@ use Rattle.czi.proofs.records.tile_starts.Tie as tie
 
 returns : tie.Need-returns
 unfolding tileStarts
-returns c = rw (read-back (c .before .before .before .before .before .before .args .t .x .start) (c .before .before .struct-told .given .0 .1), read-back (c .before .before .before .before .before .before .args .t .y .start) (c .before .struct-told2 .given .0 .1), read-back (c .before .before .before .m-index-numbers .result .start) (c .struct-told3 .given .1 .0 .1), c .before .before .before .m-index-numbers .ensures)
+returns c =
+    simp (read-back, c .before .before .struct-told .given .0 .1, c .before .struct-told2 .given .0 .1, c .struct-told3 .given .1 .0 .1)
+    (rw (c .before .before .before .m-index-numbers .ensures))
 
 pub tile-starts-spec : {M : Type 1} → statement M
 tile-starts-spec = tie.close (tie.spec (λ c κs. search needs) returns)

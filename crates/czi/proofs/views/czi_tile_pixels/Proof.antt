@@ -5,6 +5,9 @@ use borrow.Author.Needs.{needs}
 use Rattle.czi.proofs.views.czi_tile_pixels.Statement.{statement}
 use Rattle.czi.proofs.views.czi_tile_pixels.Tie as tie
 
+returns : tie.Need-returns
+returns c = search span-out
+
 pub czi-tile-pixels-spec : {M : Type 1} → statement M
 czi-tile-pixels-spec =
     tie.close
@@ -14,4 +17,4 @@ czi-tile-pixels-spec =
     (λ c κs. search needs)
     (λ c κs. search needs)
     (λ c κs. search (span-low, tile-low))
-    (λ c. search span-out))
+    returns)
