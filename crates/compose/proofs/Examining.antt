@@ -115,10 +115,14 @@ module _ (ch : Choice) (f : WindowRequest) (background : List ℕ) (target map :
 
   pub ask-passes : {table : List ℕ} {r : Verdict} (v : Verdict) → v ≡ first (askRows f background target map) → v ≡ Accepted → AgreeAnswered ch f table r
       → AskAnswered ch f background target map table r
-  ask-passes {table} {r} v h e a = record { verdict-is = then-next v r (askRows f background target map) _ h e (a .verdict-is); selects-so = λ z. a .selects-so }
+  ask-passes {table} {r} v h e a = record {
+    verdict-is = then-next v r (askRows f background target map) _ h e (a .verdict-is);
+    selects-so = λ z. a .selects-so;
+  }
 
 -- a window that was asked for has its sides and edges
-pub asked-window : (f : WindowRequest) (background : List ℕ) (target map : ℕ) (v : Verdict) → v ≡ first (askRows f background target map) → v ≡ Accepted → windowBad (requestWindow f) ≡ false
+pub asked-window : (f : WindowRequest) (background : List ℕ) (target map : ℕ) (v : Verdict) → v ≡ first (askRows f background target map) → v ≡ Accepted
+    → windowBad (requestWindow f) ≡ false
 unfolding askRows
 asked-window f background target map v h e = passed (askRows f background target map) (sym h ∙ e) 0
 
@@ -127,12 +131,14 @@ module _ (a : Asked) (target map : ℕ) where
   unfolding callVerdict verdict
   judge-stops v h e = record { verdict-is = then-stop v (checks (a .scan)) _ _ _ h e; selects-so = λ z. refuses-none z }
 
-  pub judge-passes : {table : List ℕ} {r : Verdict} (v : Verdict) → v ≡ verdict (a .scan) → v ≡ Accepted → AskAnswered (choiceOf a) (a .request) (a .background) target map table r
+  pub judge-passes : {table : List ℕ} {r : Verdict} (v : Verdict) → v ≡ verdict (a .scan) → v ≡ Accepted
+      → AskAnswered (choiceOf a) (a .request) (a .background) target map table r
       → ExamineAnswered a target map table r
   unfolding callVerdict verdict
   judge-passes {table} {r} v h e k = record { verdict-is = then-next v r (checks (a .scan)) _ h e (k .verdict-is); selects-so = k .selects-so }
 
-  pub call-sides : {table : List ℕ} (v : Verdict) → ExamineAnswered a target map table v → v ≡ Accepted → (a .request .width ≤ 65536) × (a .request .height ≤ 65536)
+  pub call-sides : {table : List ℕ} (v : Verdict) → ExamineAnswered a target map table v → v ≡ Accepted
+      → (a .request .width ≤ 65536) × (a .request .height ≤ 65536)
   call-sides v k e = sides-fit (a .request) (call-ok a target map (sym (k .verdict-is) ∙ e) .window)
 
 -- ---- an accepted call
@@ -163,9 +169,12 @@ module _ (a : Asked) (t m : List ℕ) {table : List ℕ} {w : Rect} (v : Verdict
         room = rw e (room a t m accepted);
         small = rw e (mul-le-mul (p .low) (p .narrow));
         ground = pixel-ok (a .request .«pixel_type») (a .background) (ok .pixel) .1;
-        typed = λ k h c. typed k (chosenIn table k) (meets (rectangle (a .scan .file) (entryPlace (a .scan .file) k)) w) refl refl c (ok .agree k h) (s .as-asked k h);
+        typed = λ k h c. typed k (chosenIn table k) (meets (rectangle bs (entryPlace bs k)) w) refl refl c (ok .agree k h) (s .as-asked k h);
       }
     where
+      bs : List ℕ
+      bs = a .scan .file
+
       s : Selects (choiceOf a) table
       s = x .selects-so y
 

@@ -24,7 +24,9 @@ use Rattle.compose.proofs.Agreeing.{table-few, table-place, table-liste
 -- the edges of a rectangle that was read, and of the window, fit
 pub edges-read : {bs : List ℕ} {e : ℕ} (a w : Rect) → Listed bs e → a ≡ rectangle bs e → Edges w
     → (a .left + a .width < 2 ^ 64) × (a .top + a .height < 2 ^ 64) × (w .left + w .width < 2 ^ 64) × (w .top + w .height < 2 ^ 64)
-edges-read {bs} {e} a w l h f = let g = read-edges bs e a l h in (omega (arith, g .right), omega (arith, g .bottom), omega (arith, f .right), omega (arith, f .bottom))
+edges-read {bs} {e} a w l h f =
+    let g = read-edges bs e a l h in
+    (omega (arith, g .right), omega (arith, g .bottom), omega (arith, f .right), omega (arith, f .bottom))
 
 -- ---- the keys rise
 

@@ -28,11 +28,23 @@ unfolding below
 below-is s t a b e f = rw (e, f)
 
 module _ (ch : Choice) (table : List ℕ) (w : Rect) where
+  abbrev bs : List ℕ
+  bs = ch .scan .file
+
+  abbrev keys : ℕ → List ℕ
+  keys n = keysBelow n bs table w
+
+  abbrev turns : ℕ → Bool
+  turns = takesTurn bs table w
+
+  abbrev rank : ℕ → ℕ
+  rank n = rankOf bs n (entryPlace bs n)
+
   -- what a key of an entry below n is: the rank of that entry's tile, which takes a turn
   pub record Key (n q : ℕ) : Type 0 where
     pub within : q % 4096 < n
-    pub rank : rankOf (ch .scan .file) (q % 4096) (entryPlace (ch .scan .file) (q % 4096)) ≡ q
-    pub turn : takesTurn (ch .scan .file) table w (q % 4096) ≡ true
+    pub rank : rankOf bs (q % 4096) (entryPlace bs (q % 4096)) ≡ q
+    pub turn : turns (q % 4096) ≡ true
 
   abbrev pub Keys : ℕ → List ℕ → Type 0
   Keys n [] = Unit {0}
@@ -54,17 +66,17 @@ module _ (ch : Choice) (table : List ℕ) (w : Rect) where
       go true i = (k, ks)
       go false i = (ks .0, i)
 
-  new-key : (n : ℕ) → n < 4096 → takesTurn (ch .scan .file) table w n ≡ true → Key (suc n) (rankOf (ch .scan .file) n (entryPlace (ch .scan .file) n))
-  new-key n h t = let e = rank-entry (ch .scan) n (entryPlace (ch .scan .file) n) h in record { within = omega (arith, e); rank = rw e; turn = rw e t }
+  new-key : (n : ℕ) → n < 4096 → turns n ≡ true → Key (suc n) (rank n)
+  new-key n h t = let e = rank-entry (ch .scan) n (entryPlace bs n) h in record { within = omega (arith, e); rank = rw e; turn = rw e t }
 
-  pub keys-in : (n : ℕ) → n ≤ 4096 → Keys n (keysBelow n (ch .scan .file) table w)
+  pub keys-in : (n : ℕ) → n ≤ 4096 → Keys n (keys n)
   unfolding keysBelow
   keys-in zero h = tt
-  keys-in (suc n) h = go (takesTurn (ch .scan .file) table w n) refl (laters n (keysBelow n (ch .scan .file) table w) (keys-in n (omega arith)))
+  keys-in (suc n) h = go (turns n) refl (laters n (keys n) (keys-in n (omega arith)))
     where
-      go : (b : Bool) → takesTurn (ch .scan .file) table w n ≡ b → Keys (suc n) (keysBelow n (ch .scan .file) table w)
-          → Keys (suc n) (cond b (insertKey (rankOf (ch .scan .file) n (entryPlace (ch .scan .file) n)) (keysBelow n (ch .scan .file) table w)) (keysBelow n (ch .scan .file) table w))
-      go true e ks = inserted (suc n) (rankOf (ch .scan .file) n (entryPlace (ch .scan .file) n)) (keysBelow n (ch .scan .file) table w) (new-key n (omega arith) e) ks
+      go : (b : Bool) → turns n ≡ b → Keys (suc n) (keys n)
+          → Keys (suc n) (cond b (insertKey (rank n) (keys n)) (keys n))
+      go true e ks = inserted (suc n) (rank n) (keys n) (new-key n (omega arith) e) ks
       go false e ks = ks
 
   -- the key at a place
@@ -91,35 +103,35 @@ module _ (ch : Choice) (table : List ℕ) (w : Rect) where
       go true i = refl
       go false i = ap (λ (x : List Tile). tileOfKey ch q ∷ x) i
 
-  pub key-tiles : (n : ℕ) → n ≤ 4096 → map (tileOfKey ch) (keysBelow n (ch .scan .file) table w) ≡ bottomFirst (tilesBelow n ch (takesTurn (ch .scan .file) table w))
+  pub key-tiles : (n : ℕ) → n ≤ 4096 → map (tileOfKey ch) (keys n) ≡ bottomFirst (tilesBelow n ch (turns))
   unfolding keysBelow tilesBelow bottomFirst
   key-tiles zero h = refl
-  key-tiles (suc n) h = go (takesTurn (ch .scan .file) table w n) refl (key-tiles n (omega arith))
+  key-tiles (suc n) h = go (turns n) refl (key-tiles n (omega arith))
     where
-      go : (b : Bool) → takesTurn (ch .scan .file) table w n ≡ b → map (tileOfKey ch) (keysBelow n (ch .scan .file) table w) ≡ bottomFirst (tilesBelow n ch (takesTurn (ch .scan .file) table w))
-          → map (tileOfKey ch) (cond b (insertKey (rankOf (ch .scan .file) n (entryPlace (ch .scan .file) n)) (keysBelow n (ch .scan .file) table w)) (keysBelow n (ch .scan .file) table w))
-          ≡ bottomFirst (cond b (fileTile ch n ∷ tilesBelow n ch (takesTurn (ch .scan .file) table w)) (tilesBelow n ch (takesTurn (ch .scan .file) table w)))
+      go : (b : Bool) → turns n ≡ b → map (tileOfKey ch) (keys n) ≡ bottomFirst (tilesBelow n ch (turns))
+          → map (tileOfKey ch) (cond b (insertKey (rank n) (keys n)) (keys n))
+          ≡ bottomFirst (cond b (fileTile ch n ∷ tilesBelow n ch (turns)) (tilesBelow n ch (turns)))
       go true e i =
-          map-insert (suc n) (rankOf (ch .scan .file) n (entryPlace (ch .scan .file) n)) (keysBelow n (ch .scan .file) table w) (new-key n (omega arith) e) (laters n (keysBelow n (ch .scan .file) table w) (keys-in n (omega arith)))
-          ∙ rw (rank-entry (ch .scan) n (entryPlace (ch .scan .file) n) (omega arith), i)
+          map-insert (suc n) (rank n) (keys n) (new-key n (omega arith) e) (laters n (keys n) (keys-in n (omega arith)))
+          ∙ rw (rank-entry (ch .scan) n (entryPlace bs n) (omega arith), i)
       go false e i = i
 
   -- ---- the tiles that take a turn are the chosen ones that meet the window
 
   -- by its rank a tile shows its entry, and so its rectangle
   abbrev pub meetsWindow : Tile → Bool
-  meetsWindow t = meets (rectangle (ch .scan .file) (entryPlace (ch .scan .file) (t .rank % 4096))) w
+  meetsWindow t = meets (rectangle bs (entryPlace bs (t .rank % 4096))) w
 
-  pub file-meets : (k : ℕ) → k < 4096 → meetsWindow (fileTile ch k) ≡ meets (rectangle (ch .scan .file) (entryPlace (ch .scan .file) k)) w
-  file-meets k h = rw (file-rank ch k, rank-entry (ch .scan) k (entryPlace (ch .scan .file) k) h)
+  pub file-meets : (k : ℕ) → k < 4096 → meetsWindow (fileTile ch k) ≡ meets (rectangle bs (entryPlace bs k)) w
+  file-meets k h = rw (file-rank ch k, rank-entry (ch .scan) k (entryPlace bs k) h)
 
-  pub turn-tiles : (n : ℕ) → n ≤ 4096 → tilesBelow n ch (takesTurn (ch .scan .file) table w) ≡ keep meetsWindow (tilesBelow n ch (chosenIn table))
+  pub turn-tiles : (n : ℕ) → n ≤ 4096 → tilesBelow n ch (turns) ≡ keep meetsWindow (tilesBelow n ch (chosenIn table))
   unfolding tilesBelow keep
   turn-tiles zero h = refl
-  turn-tiles (suc n) h = go (chosenIn table n) (meets (rectangle (ch .scan .file) (entryPlace (ch .scan .file) n)) w) (file-meets n (omega arith)) (turn-tiles n (omega arith))
+  turn-tiles (suc n) h = go (chosenIn table n) (meets (rectangle bs (entryPlace bs n)) w) (file-meets n (omega arith)) (turn-tiles n (omega arith))
     where
-      go : (b m : Bool) → meetsWindow (fileTile ch n) ≡ m → tilesBelow n ch (takesTurn (ch .scan .file) table w) ≡ keep meetsWindow (tilesBelow n ch (chosenIn table))
-          → cond (cond b m false) (fileTile ch n ∷ tilesBelow n ch (takesTurn (ch .scan .file) table w)) (tilesBelow n ch (takesTurn (ch .scan .file) table w))
+      go : (b m : Bool) → meetsWindow (fileTile ch n) ≡ m → tilesBelow n ch (turns) ≡ keep meetsWindow (tilesBelow n ch (chosenIn table))
+          → cond (cond b m false) (fileTile ch n ∷ tilesBelow n ch (turns)) (tilesBelow n ch (turns))
           ≡ keep meetsWindow (cond b (fileTile ch n ∷ tilesBelow n ch (chosenIn table)) (tilesBelow n ch (chosenIn table)))
       go true true e i = rw e (ap (λ (x : List Tile). fileTile ch n ∷ x) i)
       go true false e i = rw e i

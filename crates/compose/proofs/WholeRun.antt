@@ -26,7 +26,8 @@ use Rattle.compose.specs.declared.Counts.{Counts}
 use Rattle.compose.proofs.Along.{along}
 
 -- the background and the zero map are the start
-pub begun : {t m background t′ m′ : List ℕ} (w : Rect) (pixel b : ℕ) → b ≡ pixelBytes pixel → BackgroundFilled t (area w) b background t′ → Cleared m (area w) m′
+pub begun : {t m background t′ m′ : List ℕ} (w : Rect) (pixel b : ℕ) → b ≡ pixelBytes pixel
+    → BackgroundFilled t (area w) b background t′ → Cleared m (area w) m′
     → Begun t m background w pixel t′ m′
 begun w pixel b e f c = record { start-is = started w (pixelBytes pixel) _ _ _ _ _ (rw e at f) c }
 
@@ -65,7 +66,8 @@ module _ {t m bs table background : List ℕ} {w : Rect} {pixel : ℕ} {t₁ m�
       whole {k} d =
           d .run-is
           ∙ ap (λ (s : Painting). run k w (pixelBytes pixel) (turnOrder k (map (tileOfKey (paints (scanOf bs) on)) (take count keys))) s) (b .start-is)
-          ∙ ap (λ (l : List ℕ). run k w (pixelBytes pixel) (turnOrder k (map (tileOfKey (paints (scanOf bs) on)) l)) (start w (pixelBytes pixel) background t m))
+          ∙ ap
+          (λ (l : List ℕ). run k w (pixelBytes pixel) (turnOrder k (map (tileOfKey (paints (scanOf bs) on)) l)) (start w (pixelBytes pixel) background t m))
           ((rw e at g) .keys-are)
           ∙ along (paints (scanOf bs) on) table w k (pixelBytes pixel) background t m (tileCount bs) (tiled (scanOf bs) (p .chosen .accepted) .few) (p .room)
 
@@ -83,6 +85,7 @@ module _ {t m bs table background : List ℕ} {w : Rect} {pixel : ℕ} {t₁ m�
           })
 
       -- the plain one's covered count is the map's ones
-      pub plain-done : {q : Bool} (covered : ℕ) → q ≡ false → RunDone plain t₁ m₁ (paints (scanOf bs) on) keys count w pixel t₂ m₂ stored → covered ≡ ones (area w) m₂
+      pub plain-done : {q : Bool} (covered : ℕ) → q ≡ false → RunDone plain t₁ m₁ (paints (scanOf bs) on) keys count w pixel t₂ m₂ stored
+          → covered ≡ ones (area w) m₂
           → PlaneDone (kindOf q) t m (paints (scanOf bs) on) table background w pixel t₂ m₂ (record { covered = covered; stored = stored })
       plain-done covered h d o = rw h (record { painting = whole d; covered-is = o })

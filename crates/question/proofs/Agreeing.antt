@@ -23,7 +23,8 @@ module _ (bs : List ℕ) (chosen : ℕ → Bool) (w : Rect) (t : ℕ) where
   unfolding agreeRows
   agree-ok e k h = passed (agreeRow bs chosen w t k) (rows-each (tileCount bs) k (agreeRow bs chosen w t) e h) 0
 
-  pub agree-accepted : ((k : ℕ) → k < tileCount bs → cond (chosen k) (typeBad bs w t (entryPlace bs k)) false ≡ false) → first (agreeRows bs chosen w t) ≡ Accepted
+  pub agree-accepted : ((k : ℕ) → k < tileCount bs → cond (chosen k) (typeBad bs w t (entryPlace bs k)) false ≡ false)
+      → first (agreeRows bs chosen w t) ≡ Accepted
   unfolding agreeRows
   agree-accepted g = rows-all (tileCount bs) (agreeRow bs chosen w t) (λ k h. rw (g k h))
 

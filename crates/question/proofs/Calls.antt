@@ -15,7 +15,8 @@ use Rattle.plane.specs.Cuts.{Proper}
 use Rattle.plane.specs.Demand3 as Runs
 use Rattle.plane.proofs.Demand3.{demand3}
 use Rattle.question.specs.Question.{masksOn}
-use Rattle.question.specs.Call.{Asked, choiceOf, chosen, callVerdict, askedWindow, askedBytes, selected, painted, answer, targetAfter, mapAfter, coveredIn}
+use Rattle.question.specs.Call.{Asked, choiceOf, chosen, callVerdict, askedWindow, askedBytes}
+use Rattle.question.specs.Call.{selected, painted, answer, targetAfter, mapAfter, coveredIn}
 use Rattle.question.specs.Demand3.{after}
 use Rattle.question.proofs.Ranks.{tiles-ranked}
 use Rattle.question.proofs.Asking.{window-ok, pixel-ok, lent-ok}

@@ -113,7 +113,8 @@ module _ {ds : List ℕ} {e : ℕ} {bs : List ℕ} {q : ℕ} where
       end : ℕ
       end = attachmentPlace ds e bs q + attachmentSize bs q
 
-      go : (b : Bool) → hasChunks ds e bs q ≡ b → cond b (maskFrom (attachmentSize bs q) bs end (attachmentPlace ds e bs q)) Unmasked ≡ Masked c shape → Lined bs c shape
+      go : (b : Bool) → hasChunks ds e bs q ≡ b → cond b (maskFrom (attachmentSize bs q) bs end (attachmentPlace ds e bs q)) Unmasked ≡ Masked c shape
+          → Lined bs c shape
       go true y h =
           mask-in bs end c shape (filled-in ds e bs q (j .filled) .attachment)
           (mask-ok (attachmentSize bs q) bs _ false (attachmentPlace ds e bs q) c shape (container-chunks ds e bs q y (j .attachment)) h)
@@ -226,7 +227,8 @@ module _ {ds : List ℕ} {e : ℕ} {bs : List ℕ} {q : ℕ} where
   lent-turned a b from ha hb hf d = record { behind = rw (rest from bs, ha, hb, hf) at d }
 
 -- the file from n on, at most the first of the mask's lines
-pub lines-room : {bs : List ℕ} {c : ℕ} {shape : MaskShape} (n : ℕ) → Lined bs c shape → n ≤ c + 36 → LinesRoom (maskWith shape) (take (length bs - n) (drop n bs))
+pub lines-room : {bs : List ℕ} {c : ℕ} {shape : MaskShape} (n : ℕ) → Lined bs c shape → n ≤ c + 36
+    → LinesRoom (maskWith shape) (take (length bs - n) (drop n bs))
 lines-room {bs} {c} {shape} n l h = record {
   stride = l .columns;
   mask = rw (rest n bs, length-drop n bs) (omega (arith, l .lines));

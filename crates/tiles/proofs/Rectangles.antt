@@ -73,7 +73,8 @@ module _ (a w : Rect) where
   pub meeting : w .left < a .left + a .width → a .left < w .left + w .width → w .top < a .top + a .height → a .top < w .top + w .height → true ≡ meets a w
   unfolding meets
   meeting h i j k =
-      rw (lt-ltb (w .left) (a .left + a .width) h, lt-ltb (a .left) (w .left + w .width) i, lt-ltb (w .top) (a .top + a .height) j, lt-ltb (a .top) (w .top + w .height) k)
+      rw (lt-ltb (w .left) (a .left + a .width) h, lt-ltb (a .left) (w .left + w .width) i)
+      (rw (lt-ltb (w .top) (a .top + a .height) j, lt-ltb (a .top) (w .top + w .height) k))
 
 -- ---- off the window
 
