@@ -6,8 +6,8 @@ use question::WindowRequest;
 ghost use mathlib.Core.Path.{_≡_};
 ghost use mathlib.Core.Bool.{false};
 ghost use Prim.Native.Nat.{_+_, _≤_, _<_, _^_};
+ghost use Rattle.format.specs.Bytes.{shifted};
 ghost use Rattle.format.specs.Checks.{first};
-ghost use Rattle.turns.specs.TileOf as Turns;
 ghost use Rattle.question.specs.Question.{masksOn, requestWindow, windowBad, pixelBad, lentBad, askRows};
 
 // Whether masks count.
@@ -21,18 +21,32 @@ pub fn masks_on(m: Masks) -> bool
     }
 }
 
-// The window in plane coordinates: the signed ones plus 2^31.
+// The window's left edge in plane coordinates: the signed one plus 2^31.
+fn left_of(f: WindowRequest) -> u64
+    ensures { λ r. ⌜ (r ≡ shifted (f .left)) × (r < 2 ^ 32) ⌝ }
+{
+    let left = f.left;
+    fields::shifted_of(left)
+}
+
+// Its top edge.
+fn top_of(f: WindowRequest) -> u64
+    ensures { λ r. ⌜ (r ≡ shifted (f .top)) × (r < 2 ^ 32) ⌝ }
+{
+    let top = f.top;
+    fields::shifted_of(top)
+}
+
+// The window in plane coordinates.
 pub fn window_of(f: WindowRequest) -> Rect
     requires { ⌜ (f .width ≤ 65536) × (f .height ≤ 65536) ⌝ }
     ensures { λ r. ⌜ r ≡ requestWindow f ⌝ }
 {
-    let left = f.left;
-    let top = f.top;
     let width = f.width;
     let height = f.height;
     Rect {
-        left: fields::shifted_of(left) as usize,
-        top: fields::shifted_of(top) as usize,
+        left: left_of(f) as usize,
+        top: top_of(f) as usize,
         width: width as usize,
         height: height as usize,
     }
@@ -43,25 +57,23 @@ fn window_bad(f: WindowRequest) -> bool
     ensures { λ r. ⌜ r ≡ windowBad (requestWindow f) ⌝ }
 {
     let width = f.width;
-    let height = f.height;
     if width == 0 {
         return true;
     }
     if 65536 < width {
         return true;
     }
+    let height = f.height;
     if height == 0 {
         return true;
     }
     if 65536 < height {
         return true;
     }
-    let left = f.left;
-    if 4294967295 < fields::shifted_of(left) + width {
+    if 4294967295 < left_of(f) + width {
         return true;
     }
-    let top = f.top;
-    if 4294967295 < fields::shifted_of(top) + height {
+    if 4294967295 < top_of(f) + height {
         return true;
     }
     false
