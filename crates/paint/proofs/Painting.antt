@@ -11,7 +11,7 @@ use lib.Seq.{ext-getD}
 use borrow.Author.Tests.{lt-ltb, le-ltb, le-leb, lt-leb}
 use Rattle.plane.specs.Paint.{bit, mark, paint}
 use Rattle.plane.proofs.PaintLaws.{Bytes, same-map, mark-bit, mark-bytes, mark-length, paint-length, paint-pixel}
-use Rattle.copies.proofs.Copies.{by-range}
+pub use Rattle.copies.proofs.Copies.{by-range}
 
 -- a list that at each of its pixels is as painted is the painted one
 module _ {b : ℕ} (hb : 1 ≤ b) (n : ℕ) (on : ℕ → Bool) (px : ℕ → ℕ → ℕ) (t t′ : List ℕ) where
