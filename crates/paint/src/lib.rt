@@ -3,8 +3,18 @@ ghost use mathlib.Core.Path.{_≡_};
 ghost use mathlib.Core.Bool.{true};
 ghost use Prim.Native.Nat.{_+_, _*_, _<_, _≤_, _^_};
 ghost use lib.ListN.{length};
-ghost use Rattle.paint.specs.Row.{RowRoom, RowPainted, SpanRoom, SpanPainted, SpanGiven, Stepped, Open, validAt, givesPixel};
-ghost use Rattle.plane.specs.Paint.{bit};
+ghost use Rattle.paint.specs.RowPainting.{RowRoom, RowPainted, SpanRoom, SpanPainted, SpanGiven, Stepped, Open, validAt, rowGives};
+
+// What of a row's part of a turn does not change along the row: the number of its first pixel's map bit, the bytes of a pixel, whether the tile is
+// masked, how many columns the mask's line has, which of them is the first pixel's, and whether the turn is quick.
+pub struct Row {
+    pub first: usize,
+    pub bytes: usize,
+    pub masked: bool,
+    pub columns: usize,
+    pub column: usize,
+    pub quick: bool,
+}
 
 // The pixel behind a step's last, and how many pixels the step gave.
 pub struct Step {
@@ -14,93 +24,75 @@ pub struct Step {
 
 // ---- by the pixel
 
-// Whether column x is valid in the line of a mask that is mw columns wide; with no mask it is.
-fn valid_at(masked: bool, line: &[u8], mw: usize, x: usize) -> bool
-    requires { ⌜ (masked ≡ true → mw ≤ 8 * length (now line)) ⌝ }
-    ensures { λ r. ⌜ r ≡ validAt masked (now (line .entry)) mw x ⌝ }
+// Whether pixel i of the row is valid: it has a column in the mask's line, and the column's bit is one; with no mask it is.
+fn valid_at(line: &[u8], row: Row, i: usize) -> bool
+    requires { ⌜ (row .column + i < 2 ^ 64) × (row .masked ≡ true → row .columns ≤ 8 * length (now line)) ⌝ }
+    ensures { λ r. ⌜ r ≡ validAt (now (line .entry)) row i ⌝ }
 {
-    if !masked {
-        return true;
-    }
-    if x < mw {
-        return bits::bit_at(line, x);
-    }
-    false
-}
-
-// Whether a turn gives the pixel whose map bit is p and whose column in the mask's line is x.
-fn is_given(
-    map: &[u8],
-    p: usize,
-    masked: bool,
-    line: &[u8],
-    mw: usize,
-    x: usize,
-    quick: bool,
-) -> bool
-    requires { ⌜ (p < 8 * length (now map)) × (masked ≡ true → mw ≤ 8 * length (now line)) ⌝ }
-    ensures { λ r. ⌜ r ≡ givesPixel quick (validAt masked (now (line .entry)) mw x) (bit (now (map .entry)) p) ⌝ }
-{
-    if !valid_at(masked, line, mw, x) {
+    if row.masked {
+        let x = row.column + i;
+        if x < row.columns {
+            return bits::bit_at(line, x);
+        }
         return false;
     }
-    if !quick {
+    true
+}
+
+// Whether a turn gives pixel i of the row.
+fn is_given(map: &[u8], line: &[u8], row: Row, i: usize) -> bool
+    requires { ⌜ (row .first + i < 8 * length (now map)) × (row .first + i < 2 ^ 64) × (row .column + i < 2 ^ 64) × (row .masked ≡ true → row .columns ≤ 8 * length (now line)) ⌝ }
+    ensures { λ r. ⌜ r ≡ rowGives (now (map .entry)) (now (line .entry)) row i ⌝ }
+{
+    if valid_at(line, row, i) {
+        if row.quick {
+            return !bits::bit_at(map, row.first + i);
+        }
         return true;
     }
-    !bits::bit_at(map, p)
+    false
 }
 
 // Pixel i of the row, whose first byte is number a. The result is how many pixels it gives, one or none.
 fn paint_pixel(
     dst: &mut [u8],
     map: &mut [u8],
-    first: usize,
     src: &[u8],
-    b: usize,
+    line: &[u8],
+    row: Row,
     i: usize,
     a: usize,
-    masked: bool,
-    line: &[u8],
-    mw: usize,
-    x: usize,
-    quick: bool,
 ) -> usize
-    requires { ⌜ RowRoom (now dst) (now map) first (now src) b (i + 1) masked (now line) mw x × (a ≡ i * b) ⌝ }
-    ensures { λ r. ⌜ SpanPainted (now (dst .entry)) (now (map .entry)) first (now (src .entry)) b i (i + 1) masked (now (line .entry)) mw x quick (now (dst .exit)) (now (map .exit)) r ⌝ }
+    requires { ⌜ RowRoom (now dst) (now map) (now src) (now line) row (i + 1) × (a ≡ i * row .bytes) ⌝ }
+    ensures { λ r. ⌜ SpanPainted (now (dst .entry)) (now (map .entry)) (now (src .entry)) (now (line .entry)) row i (i + 1) (now (dst .exit)) (now (map .exit)) r ⌝ }
 {
-    let p = first + i;
-    if !is_given(map, p, masked, line, mw, x + i, quick) {
-        return 0;
+    if is_given(map, line, row, i) {
+        copies::copy_few(dst, src, a, a + row.bytes);
+        bits::set_bit(map, row.first + i);
+        return 1;
     }
-    copies::copy_few(dst, src, a, a + b);
-    bits::set_bit(map, p);
-    1
+    0
 }
 
 // The pixels from i up to j one by one.
 fn paint_pixels(
     dst: &mut [u8],
     map: &mut [u8],
-    first: usize,
     src: &[u8],
-    b: usize,
+    line: &[u8],
+    row: Row,
     i: usize,
     j: usize,
-    masked: bool,
-    line: &[u8],
-    mw: usize,
-    x: usize,
-    quick: bool,
 ) -> usize
-    requires { ⌜ SpanRoom (now dst) (now map) first (now src) b i j masked (now line) mw x ⌝ }
-    ensures { λ r. ⌜ SpanPainted (now (dst .entry)) (now (map .entry)) first (now (src .entry)) b i j masked (now (line .entry)) mw x quick (now (dst .exit)) (now (map .exit)) r ⌝ }
+    requires { ⌜ SpanRoom (now dst) (now map) (now src) (now line) row i j ⌝ }
+    ensures { λ r. ⌜ SpanPainted (now (dst .entry)) (now (map .entry)) (now (src .entry)) (now (line .entry)) row i j (now (dst .exit)) (now (map .exit)) r ⌝ }
 {
     let mut given: usize = 0;
-    let mut a = i * b;
+    let mut a = i * row.bytes;
     let mut k = i;
     while k < j {
-        given += paint_pixel(dst, map, first, src, b, k, a, masked, line, mw, x, quick);
-        a += b;
+        given += paint_pixel(dst, map, src, line, row, k, a);
+        a += row.bytes;
         k += 1;
     }
     given
@@ -122,37 +114,34 @@ fn short_end(i: usize, j: usize, p: usize) -> usize
 }
 
 // The pixels from i up to j, all of them given.
-fn give_span(dst: &mut [u8], map: &mut [u8], first: usize, src: &[u8], b: usize, i: usize, j: usize)
-    requires { ⌜ (i ≤ j) × (j * b ≤ length (now dst)) × (j * b ≤ length (now src)) × (first + j ≤ 8 * length (now map)) × (first + j < 2 ^ 64) ⌝ }
-    ensures { λ _. ⌜ SpanGiven (now (dst .entry)) (now (map .entry)) first (now (src .entry)) b i j (now (dst .exit)) (now (map .exit)) ⌝ }
+fn give_span(dst: &mut [u8], map: &mut [u8], src: &[u8], row: Row, i: usize, j: usize)
+    requires { ⌜ (i ≤ j) × (j * row .bytes ≤ length (now dst)) × (j * row .bytes ≤ length (now src)) × (row .first + j ≤ 8 * length (now map)) × (row .first + j < 2 ^ 64) ⌝ }
+    ensures { λ _. ⌜ SpanGiven (now (dst .entry)) (now (map .entry)) (now (src .entry)) row i j (now (dst .exit)) (now (map .exit)) ⌝ }
 {
-    copies::copy_range(dst, src, i * b, j * b);
-    bits::set_range(map, first + i, first + j);
+    copies::copy_range(dst, src, i * row.bytes, j * row.bytes);
+    bits::set_range(map, row.first + i, row.first + j);
 }
 
-// A step along open pixels from i up to j, all of which have a column in the mask: a run of valid ones, of others, or a few by the pixel.
+// A step along open pixels from i up to j of a masked row, all of which have a column in the mask: a run of valid ones, of others, or a few by the pixel.
 fn step_mask(
     dst: &mut [u8],
     map: &mut [u8],
-    first: usize,
     src: &[u8],
-    b: usize,
+    line: &[u8],
+    row: Row,
     i: usize,
     j: usize,
-    line: &[u8],
-    mw: usize,
-    x: usize,
-    quick: bool,
 ) -> Step
-    requires { ⌜ (i < j) × SpanRoom (now dst) (now map) first (now src) b i j true (now line) mw x × Open (now map) first i j quick × (x + j ≤ mw) ⌝ }
-    ensures { λ r. ⌜ Stepped (now (dst .entry)) (now (map .entry)) first (now (src .entry)) b i j true (now (line .entry)) mw x quick (now (dst .exit)) (now (map .exit)) (r .next) (r .given) ⌝ }
+    requires { ⌜ (i < j) × SpanRoom (now dst) (now map) (now src) (now line) row i j × (row .masked ≡ true) × Open (now map) row i j × (row .column + j ≤ row .columns) ⌝ }
+    ensures { λ r. ⌜ Stepped (now (dst .entry)) (now (map .entry)) (now (src .entry)) (now (line .entry)) row i j (now (dst .exit)) (now (map .exit)) (r .next) (r .given) ⌝ }
 {
+    let x = row.column;
     let at = x + i;
     let end = x + j;
     let valid = runs::run_end(line, at, end, true);
     if 8 <= valid - at {
         let next = valid - x;
-        give_span(dst, map, first, src, b, i, next);
+        give_span(dst, map, src, row, i, next);
         return Step {
             next,
             given: next - i,
@@ -166,46 +155,42 @@ fn step_mask(
         };
     }
     let next = short_end(i, j, at);
-    let given = paint_pixels(dst, map, first, src, b, i, next, true, line, mw, x, quick);
+    let given = paint_pixels(dst, map, src, line, row, i, next);
     Step { next, given }
 }
 
-// The end of the pixels from i up to j that have a column in a mask of mw columns.
-fn columns_end(i: usize, j: usize, mw: usize, x: usize) -> usize
-    requires { ⌜ (i ≤ j) × (x + j < 2 ^ 64) ⌝ }
-    ensures { λ r. ⌜ (i ≤ r) × (r ≤ j) × (i < r → x + r ≤ mw) × (r < j → mw ≤ x + r) ⌝ }
+// The end of the pixels from i up to j that have a column in the mask.
+fn columns_end(row: Row, i: usize, j: usize) -> usize
+    requires { ⌜ (i ≤ j) × (row .column + j < 2 ^ 64) ⌝ }
+    ensures { λ r. ⌜ (i ≤ r) × (r ≤ j) × (i < r → row .column + r ≤ row .columns) × (r < j → row .columns ≤ row .column + r) ⌝ }
 {
-    if mw <= x + i {
+    if row.columns <= row.column + i {
         return i;
     }
-    if x + j <= mw {
+    if row.column + j <= row.columns {
         return j;
     }
-    mw - x
+    row.columns - row.column
 }
 
-// Open pixels from i up to j behind a mask.
+// Open pixels from i up to j of a masked row.
 fn paint_masked(
     dst: &mut [u8],
     map: &mut [u8],
-    first: usize,
     src: &[u8],
-    b: usize,
+    line: &[u8],
+    row: Row,
     i: usize,
     j: usize,
-    line: &[u8],
-    mw: usize,
-    x: usize,
-    quick: bool,
 ) -> usize
-    requires { ⌜ SpanRoom (now dst) (now map) first (now src) b i j true (now line) mw x × Open (now map) first i j quick ⌝ }
-    ensures { λ r. ⌜ SpanPainted (now (dst .entry)) (now (map .entry)) first (now (src .entry)) b i j true (now (line .entry)) mw x quick (now (dst .exit)) (now (map .exit)) r ⌝ }
+    requires { ⌜ SpanRoom (now dst) (now map) (now src) (now line) row i j × (row .masked ≡ true) × Open (now map) row i j ⌝ }
+    ensures { λ r. ⌜ SpanPainted (now (dst .entry)) (now (map .entry)) (now (src .entry)) (now (line .entry)) row i j (now (dst .exit)) (now (map .exit)) r ⌝ }
 {
-    let end = columns_end(i, j, mw, x);
+    let end = columns_end(row, i, j);
     let mut given: usize = 0;
     let mut k = i;
     while k < end {
-        let s = step_mask(dst, map, first, src, b, k, end, line, mw, x, quick);
+        let s = step_mask(dst, map, src, line, row, k, end);
         given += s.given;
         k = s.next;
     }
@@ -216,24 +201,19 @@ fn paint_masked(
 fn paint_open(
     dst: &mut [u8],
     map: &mut [u8],
-    first: usize,
     src: &[u8],
-    b: usize,
+    line: &[u8],
+    row: Row,
     i: usize,
     j: usize,
-    masked: bool,
-    line: &[u8],
-    mw: usize,
-    x: usize,
-    quick: bool,
 ) -> usize
-    requires { ⌜ SpanRoom (now dst) (now map) first (now src) b i j masked (now line) mw x × Open (now map) first i j quick ⌝ }
-    ensures { λ r. ⌜ SpanPainted (now (dst .entry)) (now (map .entry)) first (now (src .entry)) b i j masked (now (line .entry)) mw x quick (now (dst .exit)) (now (map .exit)) r ⌝ }
+    requires { ⌜ SpanRoom (now dst) (now map) (now src) (now line) row i j × Open (now map) row i j ⌝ }
+    ensures { λ r. ⌜ SpanPainted (now (dst .entry)) (now (map .entry)) (now (src .entry)) (now (line .entry)) row i j (now (dst .exit)) (now (map .exit)) r ⌝ }
 {
-    if masked {
-        return paint_masked(dst, map, first, src, b, i, j, line, mw, x, quick);
+    if row.masked {
+        return paint_masked(dst, map, src, line, row, i, j);
     }
-    give_span(dst, map, first, src, b, i, j);
+    give_span(dst, map, src, row, i, j);
     j - i
 }
 
@@ -241,25 +221,22 @@ fn paint_open(
 fn step_map(
     dst: &mut [u8],
     map: &mut [u8],
-    first: usize,
     src: &[u8],
-    b: usize,
+    line: &[u8],
+    row: Row,
     i: usize,
     j: usize,
-    masked: bool,
-    line: &[u8],
-    mw: usize,
-    x: usize,
 ) -> Step
-    requires { ⌜ (i < j) × SpanRoom (now dst) (now map) first (now src) b i j masked (now line) mw x ⌝ }
-    ensures { λ r. ⌜ Stepped (now (dst .entry)) (now (map .entry)) first (now (src .entry)) b i j masked (now (line .entry)) mw x true (now (dst .exit)) (now (map .exit)) (r .next) (r .given) ⌝ }
+    requires { ⌜ (i < j) × SpanRoom (now dst) (now map) (now src) (now line) row i j × (row .quick ≡ true) ⌝ }
+    ensures { λ r. ⌜ Stepped (now (dst .entry)) (now (map .entry)) (now (src .entry)) (now (line .entry)) row i j (now (dst .exit)) (now (map .exit)) (r .next) (r .given) ⌝ }
 {
+    let first = row.first;
     let at = first + i;
     let end = first + j;
     let uncovered = runs::run_end(map, at, end, false);
     if 8 <= uncovered - at {
         let next = uncovered - first;
-        let given = paint_open(dst, map, first, src, b, i, next, masked, line, mw, x, true);
+        let given = paint_open(dst, map, src, line, row, i, next);
         return Step { next, given };
     }
     let covered = runs::run_end(map, at, end, true);
@@ -270,7 +247,7 @@ fn step_map(
         };
     }
     let next = short_end(i, j, at);
-    let given = paint_pixels(dst, map, first, src, b, i, next, masked, line, mw, x, true);
+    let given = paint_pixels(dst, map, src, line, row, i, next);
     Step { next, given }
 }
 
@@ -278,48 +255,38 @@ fn step_map(
 fn paint_uncovered(
     dst: &mut [u8],
     map: &mut [u8],
-    first: usize,
     src: &[u8],
-    b: usize,
-    n: usize,
-    masked: bool,
     line: &[u8],
-    mw: usize,
-    x: usize,
+    row: Row,
+    n: usize,
 ) -> usize
-    requires { ⌜ RowRoom (now dst) (now map) first (now src) b n masked (now line) mw x ⌝ }
-    ensures { λ r. ⌜ SpanPainted (now (dst .entry)) (now (map .entry)) first (now (src .entry)) b 0 n masked (now (line .entry)) mw x true (now (dst .exit)) (now (map .exit)) r ⌝ }
+    requires { ⌜ RowRoom (now dst) (now map) (now src) (now line) row n × (row .quick ≡ true) ⌝ }
+    ensures { λ r. ⌜ SpanPainted (now (dst .entry)) (now (map .entry)) (now (src .entry)) (now (line .entry)) row 0 n (now (dst .exit)) (now (map .exit)) r ⌝ }
 {
     let mut given: usize = 0;
     let mut k: usize = 0;
     while k < n {
-        let s = step_map(dst, map, first, src, b, k, n, masked, line, mw, x);
+        let s = step_map(dst, map, src, line, row, k, n);
         given += s.given;
         k = s.next;
     }
     given
 }
 
-// One row's part of a turn: dst is the row's stretch of the target and src its n pixels of b bytes. Their map bits are those from
-// first on, their columns in the mask's line those from x on. The result is how many pixels it gives.
+// One row's part of a turn: dst is the row's stretch of the target, src its n pixels, line the mask's line. The result is how many pixels it gives.
 pub fn paint_row(
     dst: &mut [u8],
     map: &mut [u8],
-    first: usize,
     src: &[u8],
-    b: usize,
-    n: usize,
-    masked: bool,
     line: &[u8],
-    mw: usize,
-    x: usize,
-    quick: bool,
+    row: Row,
+    n: usize,
 ) -> usize
-    requires { ⌜ RowRoom (now dst) (now map) first (now src) b n masked (now line) mw x ⌝ }
-    ensures { λ r. ⌜ RowPainted (now (dst .entry)) (now (map .entry)) first (now (src .entry)) b n masked (now (line .entry)) mw x quick (now (dst .exit)) (now (map .exit)) r ⌝ }
+    requires { ⌜ RowRoom (now dst) (now map) (now src) (now line) row n ⌝ }
+    ensures { λ r. ⌜ RowPainted (now (dst .entry)) (now (map .entry)) (now (src .entry)) (now (line .entry)) row n (now (dst .exit)) (now (map .exit)) r ⌝ }
 {
-    if quick {
-        return paint_uncovered(dst, map, first, src, b, n, masked, line, mw, x);
+    if row.quick {
+        return paint_uncovered(dst, map, src, line, row, n);
     }
-    paint_open(dst, map, first, src, b, 0, n, masked, line, mw, x, false)
+    paint_open(dst, map, src, line, row, 0, n)
 }

@@ -1,32 +1,29 @@
--- A part of a list, put back changed.
+-- A part of a list, from number a up to number e: its elements, and the list when the part is put back changed.
 use mathlib.Core.Path.{_≡_, sym, ap, _∙_, subst}
-use Prim.Native.Nat.{ℕ, _+_, _≤_, _<_}
-use native.Mathlib.Nat.{add-assoc}
+use Prim.Native.Nat.{ℕ, _+_, _-_, _≤_, _<_}
+use native.Mathlib.Nat.{add-sub-of-le}
 use native.Mathlib.Omega.{arith}
-use mathlib.Core.List.{List, _++_}
-use lib.ListN.{length, getD, take, drop, length-drop, List·getD-append}
+use mathlib.Core.List.{List}
+use lib.ListN.{length, getD, take, drop, List·getD-append}
 use lib.Seq.{length-take-le, getD-take, getD-drop, getD-append-add}
-use borrow.Rule.Slice.PartMut.{putMid, postOf, same-len-mid}
+use borrow.Rule.Slice.PartMut.{midOf, putMid, mid-len, same-len-mid, take-put, drop-put}
 
-module _ (a k : ℕ) (xs ys : List ℕ) (fits : a + k ≤ length xs) (l : length ys ≡ k) where
-  front : length (take a xs) ≡ a
-  front = length-take-le a xs (omega arith)
+pub mid-at : (a e : ℕ) (xs : List ℕ) (i : ℕ) → i < e - a → getD (midOf a (e - a) xs) i 0 ≡ getD xs (a + i) 0
+mid-at a e xs i h = getD-take (e - a) (drop a xs) i 0 h ∙ getD-drop a xs i 0
 
-  pub put-below : (i : ℕ) → i < a → getD (putMid a k xs ys) i 0 ≡ getD xs i 0
-  put-below i h = List·getD-append (take a xs) _ 0 i (rw front h) ∙ getD-take a xs i 0 h
+module _ (a e : ℕ) (xs ys : List ℕ) (o : a ≤ e) (fits : e ≤ length xs) (l : length ys ≡ e - a) where
+  pub put-length : length (putMid a (e - a) xs ys) ≡ length xs
+  put-length = same-len-mid a (e - a) xs ys (l ∙ sym (mid-len a e xs fits))
 
-  after : (i : ℕ) → getD (putMid a k xs ys) (a + i) 0 ≡ getD (ys ++ postOf a k xs) i 0
-  after i = subst (λ (z : ℕ). getD (putMid a k xs ys) (z + i) 0 ≡ getD (ys ++ postOf a k xs) i 0) front (getD-append-add (take a xs) _ i 0)
+  pub put-below : (i : ℕ) → i < a → getD (putMid a (e - a) xs ys) i 0 ≡ getD xs i 0
+  put-below i h = sym (getD-take a _ i 0 h) ∙ ap (λ (z : List ℕ). getD z i 0) (take-put a (e - a) xs ys (omega arith)) ∙ getD-take a xs i 0 h
 
-  pub put-in : (i : ℕ) → i < k → getD (putMid a k xs ys) (a + i) 0 ≡ getD ys i 0
-  put-in i h = after i ∙ List·getD-append ys _ 0 i (rw l h)
+  pub put-in : (i : ℕ) → i < e - a → getD (putMid a (e - a) xs ys) (a + i) 0 ≡ getD ys i 0
+  put-in i h =
+      subst (λ (z : ℕ). getD (putMid a (e - a) xs ys) (z + i) 0 ≡ getD ys i 0) (length-take-le a xs (omega arith))
+      (getD-append-add (take a xs) _ i 0 ∙ List·getD-append ys _ 0 i (rw l h))
 
-  pub put-past : (i : ℕ) → getD (putMid a k xs ys) (a + k + i) 0 ≡ getD xs (a + k + i) 0
-  put-past i =
-      ap (λ (z : ℕ). getD (putMid a k xs ys) z 0) (add-assoc a k i)
-      ∙ after (k + i)
-      ∙ subst (λ (z : ℕ). getD (ys ++ postOf a k xs) (z + i) 0 ≡ getD xs (a + k + i) 0) l
-      (getD-append-add ys (postOf a k xs) i 0 ∙ getD-drop k (drop a xs) i 0 ∙ getD-drop a xs (k + i) 0 ∙ ap (λ (z : ℕ). getD xs z 0) (sym (add-assoc a k i)))
-
-  pub put-length : length (putMid a k xs ys) ≡ length xs
-  put-length = same-len-mid a k xs ys (l ∙ sym (length-take-le k (drop a xs) (rw length-drop (omega arith))))
+  pub put-past : (i : ℕ) → e ≤ i → getD (putMid a (e - a) xs ys) i 0 ≡ getD xs i 0
+  put-past i h =
+      subst (λ (z : ℕ). getD (putMid a (e - a) xs ys) z 0 ≡ getD xs z 0) (add-sub-of-le h)
+      (sym (getD-drop e _ (i - e) 0) ∙ ap (λ (z : List ℕ). getD z (i - e) 0) (drop-put a e xs ys o fits l) ∙ getD-drop e xs (i - e) 0)

@@ -10,7 +10,8 @@ use Rattle.plane.specs.Paint.{paint, mark}
 use Rattle.plane.specs.Turns.{Painting, Kind, plain, quick, turn}
 use Rattle.plane.specs.Demand2.{Room}
 use Rattle.plane.specs.declared.Rect.{Rect}
-use Rattle.paint.specs.Row.{validAt, rowGives}
+use Rattle.paint.specs.declared.Row.{Row}
+use Rattle.paint.specs.RowPainting.{validAt, rowGives}
 use Rattle.turns.specs.TileOf.{tileOf}
 use Rattle.turns.specs.declared.Mask.{Mask}
 use Rattle.turns.specs.declared.MaskLine.{MaskLine}
@@ -28,23 +29,22 @@ pub record LineOf (k : Mask) (r : ℕ) (l : MaskLine) : Type 0 where
   pub start : l .start ≡ cond (k .on && ltb r (k .height)) (r * k .stride) 0
   pub width : l .width ≡ cond (k .on && ltb r (k .height)) (k .width) 0
 
--- ---- a row's stretch: n pixels of the target from number `first` on, n of the source from byte `from` on, mask columns from x on
+-- ---- a row's stretch: n pixels of the target from that of the row's first map bit on, n of the source from byte `from` on, the mask's line from byte `line` on
 
-pub record StretchRoom (t m : List ℕ) (first : ℕ) (src : List ℕ) (from b n : ℕ) (masked : Bool) (lines : List ℕ) (line mw x : ℕ) : Type 0 where
-  pub bytes : 1 ≤ b
-  pub target : (first + n) * b ≤ length t
-  pub source : from + n * b ≤ length src
-  pub bits : first + n ≤ 8 * length m
+pub record StretchRoom (t m src : List ℕ) (from : ℕ) (lines : List ℕ) (line : ℕ) (row : Row) (n : ℕ) : Type 0 where
+  pub bytes : 1 ≤ row .bytes
+  pub target : (row .first + n) * row .bytes ≤ length t
+  pub source : from + n * row .bytes ≤ length src
+  pub bits : row .first + n ≤ 8 * length m
   pub start : line ≤ length lines
-  pub mask : masked ≡ true → mw ≤ 8 * (length lines - line)
-  pub columns : x + n < 2 ^ 64
+  pub mask : row .masked ≡ true → row .columns ≤ 8 * (length lines - line)
+  pub columns : row .column + n < 2 ^ 64
 
-pub record StretchPainted (t m : List ℕ) (first : ℕ) (src : List ℕ) (from b n : ℕ) (masked : Bool) (lines : List ℕ) (line mw x : ℕ) (quick : Bool) (t′ m′ : List ℕ) (r : ℕ)
-    : Type 0 where
-  pub target : t′ ≡ paint (first + n) b (λ p. leb first p && rowGives quick m first masked (drop line lines) mw x (p - first))
-      (λ p j. getD src (from + (p - first) * b + j) 0) t
-  pub map : m′ ≡ mark (first + n) (λ p. leb first p && validAt masked (drop line lines) mw (x + (p - first))) m
-  pub given : r ≡ count n (rowGives quick m first masked (drop line lines) mw x)
+pub record StretchPainted (t m src : List ℕ) (from : ℕ) (lines : List ℕ) (line : ℕ) (row : Row) (n : ℕ) (t′ m′ : List ℕ) (r : ℕ) : Type 0 where
+  pub target : t′ ≡ paint (row .first + n) (row .bytes) (λ p. leb (row .first) p && rowGives m (drop line lines) row (p - row .first))
+      (λ p j. getD src (from + (p - row .first) * row .bytes + j) 0) t
+  pub map : m′ ≡ mark (row .first + n) (λ p. leb (row .first) p && validAt (drop line lines) row (p - row .first)) m
+  pub given : r ≡ count n (rowGives m (drop line lines) row)
 
 -- ---- the turn
 

@@ -1,4 +1,5 @@
 // A tile's turn: the rows of the tile that meet the window, each painted into its own stretch of the target.
+use paint::Row;
 use plane::Rect;
 ghost use mathlib.Core.Path.{_≡_};
 ghost use Prim.Native.Nat.{_+_, _*_, _<_, min, max, _^_};
@@ -74,37 +75,28 @@ pub fn mask_line(k: Mask, row: usize) -> MaskLine
 pub fn paint_stretch(
     target: &mut [u8],
     map: &mut [u8],
-    first: usize,
     src: &[u8],
     from: usize,
-    b: usize,
-    n: usize,
-    masked: bool,
     lines: &[u8],
     line: usize,
-    mw: usize,
-    x: usize,
-    quick: bool,
+    row: Row,
+    n: usize,
 ) -> usize
-    requires { ⌜ StretchRoom (now target) (now map) first (now src) from b n masked (now lines) line mw x ⌝ }
-    ensures { λ r. ⌜ StretchPainted (now (target .entry)) (now (map .entry)) first (now (src .entry)) from b n masked (now (lines .entry)) line mw x quick (now (target .exit)) (now (map .exit)) r ⌝ }
+    requires { ⌜ StretchRoom (now target) (now map) (now src) from (now lines) line row n ⌝ }
+    ensures { λ r. ⌜ StretchPainted (now (target .entry)) (now (map .entry)) (now (src .entry)) from (now (lines .entry)) line row n (now (target .exit)) (now (map .exit)) r ⌝ }
 {
-    let a = first * b;
+    let b = row.bytes;
+    let a = row.first * b;
     let c = n * b;
     let e = a + c;
     let f = from + c;
     paint::paint_row(
         &mut target[a..e],
         map,
-        first,
         &src[from..f],
-        b,
-        n,
-        masked,
         &lines[line..],
-        mw,
-        x,
-        quick,
+        row,
+        n,
     )
 }
 
@@ -137,25 +129,18 @@ pub fn paint_tile(
     let mut y = c.top - w.top;
     let mut given: usize = 0;
     while y < end {
-        let row = y + w.top - a.top;
-        let l = mask_line(k, row);
-        let first = y * w.width + col;
-        let from = (row * a.width + x) * b;
-        given += paint_stretch(
-            target,
-            map,
-            first,
-            src,
-            from,
-            b,
-            n,
-            k.on,
-            lines,
-            l.start,
-            l.width,
-            x,
+        let v = y + w.top - a.top;
+        let l = mask_line(k, v);
+        let from = (v * a.width + x) * b;
+        let row = Row {
+            first: y * w.width + col,
+            bytes: b,
+            masked: k.on,
+            columns: l.width,
+            column: x,
             quick,
-        );
+        };
+        given += paint_stretch(target, map, src, from, lines, l.start, row, n);
         y += 1;
     }
     given

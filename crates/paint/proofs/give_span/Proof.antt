@@ -7,16 +7,16 @@ use Rattle.paint.proofs.give_span.Statement.{statement}
 use Rattle.paint.proofs.give_span.Tie as tie
 
 -- the span's bytes begin before they end
-order : (c : tie.After-copy-range-arg) → let a = c .before .before .before .before .args in a .i * a .b ≤ a .j * a .b
-order c = let s = c .before .before .before .before in mul-le-mul-right (s .args .b) (s .pre .0)
+order : (c : tie.After-copy-range-arg) → let a = c .before .before .before .before .args in a .i * a .row .bytes ≤ a .j * a .row .bytes
+order c = let s = c .before .before .before .before in mul-le-mul-right (s .args .row .bytes) (s .pre .0)
 
 pub give-span-spec : {M : Type 1} → statement M
 give-span-spec =
     tie.close
     (tie.spec
-    (λ c. omega (arith, order c))
+    (λ c. omega (arith, order (c .before)))
     (λ c. search needs)
-    (λ c κs. (order c, omega arith, omega arith))
+    (λ c κs. (order (c .before .before), omega arith, omega arith))
     (λ c. search needs)
     (λ c. search needs)
     (λ c κs. search needs)

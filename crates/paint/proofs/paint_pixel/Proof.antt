@@ -1,6 +1,6 @@
 -- `paint::paint_pixel` meets its contract.
-use Rattle.paint.proofs.Spans.{lent-bytes}
-use Rattle.paint.proofs.Given.{is-not, is-so, pixel-left, pixel-given}
+use Rattle.paint.proofs.Spans.{lent-bytes, is-so}
+use Rattle.paint.proofs.Steps.{pixel-left, pixel-given}
 use borrow.Author.Needs.{needs}
 use Rattle.paint.proofs.paint_pixel.Statement.{statement}
 use Rattle.paint.proofs.paint_pixel.Tie as tie
@@ -9,14 +9,13 @@ pub paint-pixel-spec : {M : Type 1} → statement M
 paint-pixel-spec =
     tie.close
     (tie.spec
-    (λ c. search needs)
+    (λ c κs. search needs)
     (λ c. search needs)
     (λ c κs. search needs)
     (λ c. search needs)
-    (λ c. search (pixel-left, lent-bytes, is-not))
-    (λ c. search needs)
-    (λ c κs. search needs)
     (λ c κs. search needs)
     (λ c. search needs)
     (λ c. search needs)
-    (λ c. search (pixel-given, is-so)))
+    (λ c. search (pixel-given, is-so))
+    (λ c. search needs)
+    (λ c. search (pixel-left, lent-bytes, is-so)))

@@ -1,5 +1,5 @@
 -- `paint::paint_row` meets its contract: a row is the span of all its pixels.
-use mathlib.Core.Path.{sym}
+use mathlib.Core.Path.{sym, _∙_}
 use mathlib.Core.Bool.{true≢false}
 use native.Mathlib.Omega.{arith}
 use Rattle.paint.proofs.Spans.{span-row}
@@ -7,15 +7,10 @@ use borrow.Author.Needs.{needs}
 use Rattle.paint.proofs.paint_row.Statement.{statement}
 use Rattle.paint.proofs.paint_row.Tie as tie
 
-returns : tie.Need-returns
-returns c = let p = c .before .before .before .before in rw (p .before .before .before .if1 .taken) (span-row (p .paint-uncovered .ensures))
-
 paint-open-requires : tie.Need-paint-open-requires
 paint-open-requires c κs =
-    (record { order = omega arith; row = c .before .before .before .before .before .before .before .pre }, λ e. absurd (true≢false (sym e)))
-
-returns-2 : tie.Need-returns-2
-returns-2 c = let p = c .before .before .before .before in rw (p .before .before .before .if1 .left) (span-row (p .paint-open .ensures))
+    let e = c .before .before in
+    (record { order = omega arith; room = e .before .before .before .before .before .pre }, λ q. absurd (true≢false (sym q ∙ e .if1 .left)))
 
 pub paint-row-spec : {M : Type 1} → statement M
 paint-row-spec =
@@ -24,8 +19,8 @@ paint-row-spec =
     (λ c κs. search needs)
     (λ c. search needs)
     (λ c. search needs)
-    returns
+    (λ c. search span-row)
     paint-open-requires
     (λ c. search needs)
     (λ c. search needs)
-    returns-2)
+    (λ c. search span-row))

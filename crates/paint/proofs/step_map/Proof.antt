@@ -6,6 +6,9 @@ use borrow.Author.Needs.{needs}
 use Rattle.paint.proofs.step_map.Statement.{statement}
 use Rattle.paint.proofs.step_map.Tie as tie
 
+paint-open-requires : tie.Need-paint-open-requires
+paint-open-requires c κs = search (run-room, open-run)
+
 pub step-map-spec : {M : Type 1} → statement M
 step-map-spec =
     tie.close
@@ -15,7 +18,7 @@ step-map-spec =
     (λ c κs. search needs)
     (λ c. search needs)
     (λ c. search needs)
-    (λ c κs. search (run-room, open-run))
+    paint-open-requires
     (λ c. search needs)
     (λ c. search needs)
     (λ c. search needs)

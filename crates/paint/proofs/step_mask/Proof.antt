@@ -7,6 +7,9 @@ use borrow.Author.Needs.{needs}
 use Rattle.paint.proofs.step_mask.Statement.{statement}
 use Rattle.paint.proofs.step_mask.Tie as tie
 
+returns : tie.Need-returns
+returns c = search step-valid
+
 pub step-mask-spec : {M : Type 1} → statement M
 step-mask-spec =
     tie.close
@@ -20,7 +23,7 @@ step-mask-spec =
     (λ c. search needs)
     (λ c. search needs)
     (λ c. search needs)
-    (λ c. search step-valid)
+    returns
     (λ c κs. (omega arith, search columns-in))
     (λ c. search needs)
     (λ c. search needs)

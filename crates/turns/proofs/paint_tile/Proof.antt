@@ -3,7 +3,26 @@ use Prim.Native.Nat.{_-_}
 use native.Mathlib.Omega.{arith}
 use borrow.Author.Needs.{needs}
 use Rattle.paint.proofs.Spans.{lent-bytes}
-use Rattle.turns.proofs.TileRows.{Rows, numbers, rows-target, rows-map, row-room, rows-more, rows-none, rows-all, rows-beside, rows-off, rows-sum}
+use Rattle.turns.proofs.TileRows.{
+  Rows,
+  rows-target,
+  rows-map,
+  rows-none,
+  rows-all,
+  rows-beside,
+  rows-off,
+  row-sum,
+  row-above,
+  row-held,
+  row-start,
+  row-first,
+  source-row,
+  source-pixel,
+  source-byte,
+  row-room,
+  rows-more,
+  rows-sum,
+}
 use Rattle.turns.proofs.paint_tile.Statement.{statement}
 use Rattle.turns.proofs.paint_tile.Tie as tie
 
@@ -16,12 +35,13 @@ abbrev μ-loop : tie.MeasureT-loop
 
 loop-holds : tie.Need-loop-holds Inv-loop μ-loop
 loop-holds c =
-    let e = c .before .before .before .before .before .before .before .before .before in
+    let d = c .before .before .before .before .before in
+    let e = d .before .before .before .before in
     let m = e .before .before .before .before in
     let s = m .before .before .before in
     let b = s .before .before in
     let g = b .good .1 .1 .1 .1 in
-    rows-none (b .pre) (λ k. s .slice-known2 .given k .fits) (b .good .0 .0) (g .0 .0) (g .1 .1 .1 .0 .0) (m .meeting .ensures)
+    rows-none _ _ (b .pre) (λ k. s .slice-known2 .given k .fits) (m .meeting .ensures) (b .good .0 .0) (g .0 .0) (g .1 .1 .1 .0 .0)
     (e .before .before .if1 .left) (e .if2 .left)
 
 paint-stretch-requires : tie.Need-paint-stretch-requires Inv-loop μ-loop
@@ -33,7 +53,8 @@ paint-stretch-requires c κs =
 add-given : tie.Need-add-given Inv-loop μ-loop
 add-given c =
     let p = c .before .before .before .before in
-    let l = p .before .before .before .before .before .before .before .before in
+    let m = p .before .before .before .before .before in
+    let l = m .before .before .before in
     rows-sum (l .before .loop .inv) (l .loop-test .taken) (p .paint-stretch .ensures)
 
 loop-again : tie.Need-loop-again Inv-loop μ-loop
@@ -58,19 +79,19 @@ paint-tile-spec =
     (λ c. omega arith)
     (λ c. omega arith)
     loop-holds
-    (λ c. record { fits = numbers (c .before .before .loop .inv) (c .before .loop-test .taken) .sum })
-    (λ c. numbers (c .before .before .before .loop .inv) (c .before .before .loop-test .taken) .above)
-    (λ c κs. numbers (c .before .before .before .loop .inv) (c .before .before .loop-test .taken) .held)
-    (λ c. let l = c .before .before .before .before in record { fits = numbers (l .before .loop .inv) (l .loop-test .taken) .row-start })
-    (λ c. let l = c .before .before .before .before in record { fits = numbers (l .before .loop .inv) (l .loop-test .taken) .first })
-    (λ c. let l = c .before .before .before .before .before in record { fits = numbers (l .before .loop .inv) (l .loop-test .taken) .src-row })
-    (λ c. let l = c .before .before .before .before .before in record { fits = numbers (l .before .loop .inv) (l .loop-test .taken) .src-pixel })
-    (λ c. let l = c .before .before .before .before .before in record { fits = numbers (l .before .loop .inv) (l .loop-test .taken) .src-byte })
+    (λ c. search row-sum)
+    (λ c. search row-above)
+    (λ c κs. search row-held)
+    (λ c. search source-row)
+    (λ c. let l = c .before .before .before .before in source-pixel (l .before .loop .inv) (l .loop-test .taken))
+    (λ c. let l = c .before .before .before .before in source-byte (l .before .loop .inv) (l .loop-test .taken))
+    (λ c. search row-start)
+    (λ c. let l = c .before .before .before .before .before in row-first (l .before .loop .inv) (l .loop-test .taken))
     paint-stretch-requires
     add-given
     (λ c. omega arith)
     (λ c. omega arith)
     loop-again
-    (λ c. rows-target (c .before .loop .inv))
-    (λ c. rows-map (c .before .loop .inv))
-    (λ c. rows-all (c .before .loop .inv) (c .loop-test .left)))
+    (λ c. search rows-target)
+    (λ c. search rows-map)
+    (λ c. search rows-all))
