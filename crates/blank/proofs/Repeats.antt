@@ -111,26 +111,28 @@ repeating-end {t} {b} {end} {r} {w} {k} v l h g =
 pub pixel-fits : (n b : ℕ) → 1 ≤ n → b ≤ n * b
 pixel-fits n b m = rw one-mul at (mul-le-mul-right b m)
 
-module _ (n b : ℕ) (bg t : List ℕ) (one : 1 ≤ b) (pixel : length bg ≡ b) where
-  pub fill-uniform : Alike bg (length bg) → front (λ i. getD bg 0 0) (n * b) t ≡ paint n b (λ p. true) (λ p j. getD bg j 0) t
-  fill-uniform u =
-      front-is (λ i. getD bg (i % b) 0) (n * b) t _ (front-length _ (n * b) t) (λ i h l. front-in _ (n * b) t i h l ∙ sym (u (i % b) (rw pixel (mod-lt i one))))
-      (λ i h l. front-past _ (n * b) t i h l)
+module _ (n b : ℕ) (bg t r : List ℕ) (one : 1 ≤ b) (pixel : length bg ≡ b) where
+  pub fill-uniform : Alike bg (length bg) → r ≡ front (λ i. getD bg 0 0) (n * b) t → r ≡ paint n b (λ p. true) (λ p j. getD bg j 0) t
+  fill-uniform u e =
+      front-is (λ i. getD bg (i % b) 0) (n * b) t r (ap length e ∙ front-length _ (n * b) t)
+      (λ i h l. rw e (front-in _ (n * b) t i h l ∙ sym (u (i % b) (rw pixel (mod-lt i one)))))
+      (λ i h l. rw e (front-past _ (n * b) t i h l))
       ∙ front-fill n b bg t
 
-  pub fill-none : n ≡ 0 → t ≡ paint n b (λ p. true) (λ p j. getD bg j 0) t
-  fill-none z =
-      sym (front-none _ t) ∙ ap (λ (k : ℕ). front (λ i. getD bg (i % b) 0) k t) (sym (zero-mul b) ∙ ap (λ (k : ℕ). k * b) (sym z)) ∙ front-fill n b bg t
-
   -- the first pixel copied, to give t₁, and repeated
-  pub fill-repeat : (t₁ : List ℕ) → 1 ≤ n → n * b ≤ length t → t₁ ≡ copied t bg 0 b
-      → front (λ i. getD t₁ (i % b) 0) (n * b) t₁ ≡ paint n b (λ p. true) (λ p j. getD bg j 0) t
-  fill-repeat t₁ m r e =
-      front-is (λ i. getD bg (i % b) 0) (n * b) t _ (front-length _ (n * b) t₁ ∙ same)
-      (λ i h l. front-in _ (n * b) t₁ i (rw same h) l ∙ ap (λ (x : List ℕ). getD x (i % b) 0) e ∙ copied-in t bg 0 b (i % b)
-      (omega (arith, mod-lt i one, pixel-fits n b m)) (omega arith) (mod-lt i one))
-      (λ i h l. front-past _ (n * b) t₁ i (rw same h) l ∙ ap (λ (x : List ℕ). getD x i 0) e ∙ copied-past t bg 0 b i h (omega (arith, pixel-fits n b m)))
+  pub fill-repeat : (t₁ : List ℕ) → 1 ≤ n → n * b ≤ length t → t₁ ≡ copied t bg 0 b → r ≡ front (λ i. getD t₁ (i % b) 0) (n * b) t₁
+      → r ≡ paint n b (λ p. true) (λ p j. getD bg j 0) t
+  fill-repeat t₁ m room e g =
+      front-is (λ i. getD bg (i % b) 0) (n * b) t r (ap length g ∙ front-length _ (n * b) t₁ ∙ same)
+      (λ i h l. let j = mod-lt i one in
+      rw g (front-in _ (n * b) t₁ i (rw same h) l ∙ rw e (copied-in t bg 0 b (i % b) (omega (arith, pixel-fits n b m)) (omega arith) j)))
+      (λ i h l. rw g (front-past _ (n * b) t₁ i (rw same h) l ∙ rw e (copied-past t bg 0 b i h (omega (arith, pixel-fits n b m)))))
       ∙ front-fill n b bg t
     where
       same : length t₁ ≡ length t
       same = ap length e ∙ copied-length t bg 0 b
+
+pub fill-none : (n b : ℕ) (bg t : List ℕ) → n ≡ 0 → t ≡ paint n b (λ p. true) (λ p j. getD bg j 0) t
+fill-none n b bg t z =
+    let e : 0 ≡ n * b = rw (z, zero-mul) in
+    sym (front-none _ t) ∙ ap (λ (k : ℕ). front (λ i. getD bg (i % b) 0) k t) e ∙ front-fill n b bg t

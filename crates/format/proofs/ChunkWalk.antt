@@ -18,24 +18,26 @@ use Rattle.format.proofs.Members.{each-more}
 
 -- ---- refusals 17 and 18 are not given to the chunk at c
 
+pub chunk-fits : (bs : List ℕ) (end c : ℕ) → chunkBad bs end c ≡ false → (c + 20 ≤ end) × (c + 20 + chunkSize bs c ≤ end)
+unfolding chunkBad nextChunk
+chunk-fits bs end c e = (ltb-false _ _ (none _ e 0), ltb-false _ _ (none _ e 2))
+
 module _ (bs : List ℕ) (end : ℕ) (seen : Bool) (c : ℕ) where
+  -- neither 17 nor 18
   pub record Chunked : Type 0 where
-    pub head : c + 20 ≤ end
-    pub within : nextChunk bs c ≤ end
+    pub header : c + 20 ≤ end
+    pub payload : c + 20 + chunkSize bs c ≤ end
     pub chunk : chunkBad bs end c ≡ false
     pub mask : isMask bs c ≡ true → (seen ≡ false) × (maskBad bs c ≡ false)
 
-  pub chunk-head : chunkBad bs end c ≡ false → c + 20 ≤ end
-  unfolding chunkBad
-  chunk-head e = ltb-false _ _ (none _ e 0)
-
   pub chunk-ok : first (chunkRows bs end seen c) ≡ Accepted → Chunked
-  unfolding chunkRows chunkBad maskRefused
+  unfolding chunkRows maskRefused
   chunk-ok e =
       let g = passed (chunkRows bs end seen c) e in
+      let f = chunk-fits bs end c (g 0) in
       record {
-        head = ltb-false _ _ (none _ (g 0) 0);
-        within = ltb-false _ _ (none _ (g 0) 2);
+        header = f .0;
+        payload = f .1;
         chunk = g 0;
         mask = λ m. let f : anyOf (seen ∷ maskBad bs c ∷ []) ≡ false = rw m at (g 1) in (none _ f 0, none _ f 1);
       }
@@ -98,7 +100,8 @@ module _ (bs : List ℕ) (end : ℕ) where
       (λ f.
       let both = first-both (chunkRows bs end seen c) (chunksRows n bs end (seen || isMask bs c) (nextChunk bs c)) (rw f at e) in
       let ok = chunk-ok bs end seen c (both .0) in
-      let r = chunks-left n (seen || isMask bs c) (nextChunk bs c) (ok .within) (omega (arith, next-chunk-is bs c)) (both .1) in
+      let next = next-chunk-is bs c in
+      let r = chunks-left n (seen || isMask bs c) (nextChunk bs c) (omega (arith, ok .payload)) (omega arith) (both .1) in
       (c ∷ r .0, more-left seen c (r .0) ok (r .1)))
       (λ f. ([], none-left seen c (omega (arith, ltb-false c end f))))
 
@@ -123,11 +126,11 @@ module _ (bs : List ℕ) (end : ℕ) where
   unfolding chunksRows
   left-chunks [] zero seen c h r = refl
   left-chunks [] (suc n) seen c h r = rw (le-ltb c end (omega (arith, r .fill)))
-  left-chunks (q ∷ l) zero seen c h r = absurd (omega (arith, r .fill .0, chunk-head bs end seen q (r .chunk 0 (suc-le-suc zero-le))))
+  left-chunks (q ∷ l) zero seen c h r = absurd (omega (arith, r .fill .0, chunk-fits bs end q (r .chunk 0 (suc-le-suc zero-le)) .0))
   left-chunks (q ∷ l) (suc n) seen c h r =
       let z : 0 < length (q ∷ l) = suc-le-suc zero-le in
       let a = chunk-accepted bs end seen q (r .chunk 0 z) (λ m. (r .unseen 0 z m, r .mask 0 z m)) in
-      let k : q < end = omega (arith, chunk-head bs end seen q (r .chunk 0 z)) in
+      let k : q < end = omega (arith, chunk-fits bs end q (r .chunk 0 z) .0) in
       let ih = left-chunks l n (seen || isMask bs q) (nextChunk bs q) (omega (arith, next-chunk-is bs q, r .fill .0)) (left-next seen q c l r) in
       rw (← r .fill .0, lt-ltb q end k) (first-pass (chunkRows bs end seen q) _ a ∙ ih)
 

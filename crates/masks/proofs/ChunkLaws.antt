@@ -1,14 +1,14 @@
 -- Laws of the walk over the chunks of a container, in the form that a loop wants: the whole equals what is left. Assumes nothing.
 -- What is left at c has the fuel end - c: each chunk goes on by at least 20, so more fuel changes nothing.
 use Prim.Native.Nat.{ℕ, zero, suc, _+_, _-_, _≤_, _<_}
-use mathlib.Core.Path.{_≡_, refl, sym, ap, _∙_}
+use mathlib.Core.Path.{_≡_, refl, sym, _∙_}
 use mathlib.Core.List.{List, [], _++_}
 use mathlib.Core.Bool.{Bool, true, false, cond, _||_, or-true, or-false}
 use native.Mathlib.Omega.{arith}
 use lib.ListN.{length}
 use lib.Dec.{ltb}
 use borrow.Author.Tests.{lt-ltb, le-ltb}
-use Rattle.format.specs.Checks.{Check, first}
+use Rattle.format.specs.Checks.{first}
 use Rattle.format.specs.Masks.{chunkSize, nextChunk, isMask, maskBad, maskShape, chunkRows, chunksRows, chunkAt, maskFrom}
 use Rattle.format.specs.declared.Verdict.{Verdict}
 use Rattle.format.specs.declared.Verdict.the-variants.{Accepted, Refused}
@@ -17,8 +17,10 @@ use Rattle.format.specs.declared.Content.the-variants.{Mask, Other}
 use Rattle.format.specs.declared.Chunk.{Chunk}
 use Rattle.format.specs.declared.TileMask.{TileMask}
 use Rattle.format.specs.declared.TileMask.the-variants.{Unmasked, Masked}
+use Rattle.format.proofs.Below.{by-bool}
 use Rattle.format.proofs.Firsts.{first-both, first-pass, first-stop}
-use Rattle.masks.proofs.MaskLaws.{Passed, chunk-passed, fields-within}
+use Rattle.format.proofs.ChunkWalk.{Chunked, chunk-ok}
+use Rattle.masks.proofs.MaskLaws.{fields-within}
 
 next-after : (bs : List ℕ) (c : ℕ) → c + 20 ≤ nextChunk bs c
 unfolding nextChunk
@@ -50,8 +52,7 @@ module _ (bs : List ℕ) (end : ℕ) where
   chunks-fuel (suc n) zero seen c h k = chunks-empty (suc n) seen c (omega arith)
   chunks-fuel (suc n) (suc m) seen c h k =
       let a = next-after bs c in
-      ap (λ (l : List Check). cond (ltb c end) (chunkRows bs end seen c ++ l) [])
-      (chunks-fuel n m (seen || isMask bs c) (nextChunk bs c) (omega arith) (omega arith))
+      rw (chunks-fuel n m (seen || isMask bs c) (nextChunk bs c) (omega arith) (omega arith))
 
   mask-fuel : (n m c : ℕ) → end ≤ c + n → end ≤ c + m → maskFrom n bs end c ≡ maskFrom m bs end c
   unfolding maskFrom
@@ -59,8 +60,7 @@ module _ (bs : List ℕ) (end : ℕ) where
   mask-fuel (suc n) zero c h k = mask-empty (suc n) c (omega arith)
   mask-fuel (suc n) (suc m) c h k =
       let a = next-after bs c in
-      ap (λ (t : TileMask). cond (ltb c end) (cond (isMask bs c) (Masked c (maskShape bs c)) t) Unmasked)
-      (mask-fuel n m (nextChunk bs c) (omega arith) (omega arith))
+      rw (mask-fuel n m (nextChunk bs c) (omega arith) (omega arith))
 
   -- one step, at c
   module _ (c : ℕ) (h : c < end) where
@@ -72,9 +72,7 @@ module _ (bs : List ℕ) (end : ℕ) where
     unfolding chunksRows
     chunks-step seen =
         let a = next-after bs c in
-        rw (more, lt-ltb c end h)
-        (ap (λ (l : List Check). chunkRows bs end seen c ++ l)
-        (chunks-fuel (end - (c + 1)) (end - nextChunk bs c) (seen || isMask bs c) (nextChunk bs c) (omega arith) (omega arith)))
+        rw (more, lt-ltb c end h, chunks-fuel (end - (c + 1)) (end - nextChunk bs c) (seen || isMask bs c) (nextChunk bs c) (omega arith) (omega arith))
 
     chunks-next : (seen : Bool) → first (chunkRows bs end seen c) ≡ Accepted → Chunks bs end seen c ≡ Chunks bs end (seen || isMask bs c) (nextChunk bs c)
     chunks-next seen e = rw (chunks-step seen) (first-pass (chunkRows bs end seen c) _ e)
@@ -100,24 +98,19 @@ pub mask-ok : (n : ℕ) (bs : List ℕ) (end : ℕ) (seen : Bool) (c p : ℕ) (s
 unfolding chunksRows maskFrom
 mask-ok zero bs end seen c p shape e f = let z : _≡_ {A = ℕ} 0 1 = cc in absurd (omega arith)
 mask-ok (suc n) bs end seen c p shape e f =
-    go (ltb c end) (isMask bs c) refl e f
-    (λ u v. mask-ok n bs end (seen || isMask bs c) (nextChunk bs c) p shape u v)
+    by-bool (ltb c end)
+    (λ b.
+    let both = first-both (chunkRows bs end seen c) (chunksRows n bs end (seen || isMask bs c) (nextChunk bs c)) (rw b at e) in
+    by-bool (isMask bs c) (λ m. here m (both .0) (rw (b, m) at f))
+    (λ m. mask-ok n bs end (seen || isMask bs c) (nextChunk bs c) p shape (both .1) (rw (b, m) at f)))
+    (λ b. let g = rw b at f in let z : _≡_ {A = ℕ} 0 1 = cc in absurd (omega arith))
   where
-    go : (b m : Bool)
-        → isMask bs c ≡ m
-        → first (cond b (chunkRows bs end seen c ++ chunksRows n bs end (seen || isMask bs c) (nextChunk bs c)) []) ≡ Accepted
-        → cond b (cond m (Masked c (maskShape bs c)) (maskFrom n bs end (nextChunk bs c))) Unmasked ≡ Masked p shape
-        → (first (chunksRows n bs end (seen || isMask bs c) (nextChunk bs c)) ≡ Accepted
-        → maskFrom n bs end (nextChunk bs c) ≡ Masked p shape
-        → MaskIn bs end p shape)
-        → MaskIn bs end p shape
-    go false m h e f later = let z : _≡_ {A = ℕ} 0 1 = cc in absurd (omega arith)
-    go true false h e f later = later (first-both (chunkRows bs end seen c) _ e .1) f
-    go true true h e f later =
-        let k = chunk-passed bs end seen c (first-both (chunkRows bs end seen c) _ e .0) in
+    here : isMask bs c ≡ true → first (chunkRows bs end seen c) ≡ Accepted → Masked c (maskShape bs c) ≡ Masked p shape → MaskIn bs end p shape
+    here m a g =
+        let k = chunk-ok bs end seen c a in
         let q : c ≡ p = cc in
         let s : shape ≡ maskShape bs c = cc in
-        record { good = rw (← q) (k .good h); within = rw (← q) (k .fits .payload); dimensions = rw (← q) s }
+        record { good = rw (← q) (k .mask m .1); within = rw (← q) (k .payload); dimensions = rw (← q) s }
 
 -- ---- the chunk k that was read at c
 
@@ -126,25 +119,21 @@ module _ (bs : List ℕ) (c : ℕ) (k : Chunk) (e : k ≡ chunkAt bs c) where
   unfolding chunkAt nextChunk
   read-next = rw e
 
-  read-within : (end : ℕ) (seen : Bool) → Passed bs end seen c → c + 20 + k .length ≤ end
+  read-within : (end : ℕ) (seen : Bool) → Chunked bs end seen c → c + 20 + k .length ≤ end
   unfolding chunkAt
-  read-within end seen p = rw e (p .fits .payload)
+  read-within end seen p = rw e (p .payload)
+
+  read-content : k .content ≡ cond (isMask bs c) (Mask (maskShape bs c)) Other
+  unfolding chunkAt
+  read-content = rw e
 
   read-mask : (shape : MaskShape) → k .content ≡ Mask shape → (isMask bs c ≡ true) × (shape ≡ maskShape bs c)
-  unfolding chunkAt
-  read-mask shape h = go (isMask bs c) refl (ap (λ (x : Chunk). x .content) (sym e) ∙ h)
-    where
-      go : (b : Bool) → isMask bs c ≡ b → cond b (Mask (maskShape bs c)) Other ≡ Mask shape → (isMask bs c ≡ true) × (shape ≡ maskShape bs c)
-      go true f g = (f, cc)
-      go false f g = let z : _≡_ {A = ℕ} 0 1 = cc in absurd (omega arith)
+  read-mask shape h =
+      by-bool (isMask bs c) (λ m. let g = rw m at read-content in (m, cc))
+      (λ m. let g = rw m at read-content in let z : _≡_ {A = ℕ} 0 1 = cc in absurd (omega arith))
 
   read-other : k .content ≡ Other → isMask bs c ≡ false
-  unfolding chunkAt
-  read-other h = go (isMask bs c) refl (ap (λ (x : Chunk). x .content) (sym e) ∙ h)
-    where
-      go : (b : Bool) → isMask bs c ≡ b → cond b (Mask (maskShape bs c)) Other ≡ Other → isMask bs c ≡ false
-      go true f g = let z : _≡_ {A = ℕ} 0 1 = cc in absurd (omega arith)
-      go false f g = f
+  read-other h = by-bool (isMask bs c) (λ m. let g = rw m at read-content in let z : _≡_ {A = ℕ} 0 1 = cc in absurd (omega arith)) (λ m. m)
 
 -- ---- the loop that judges: the verdict is that on what is left from c on
 
@@ -162,11 +151,11 @@ module _ (bs : List ℕ) (a end : ℕ) (seen : Bool) (c : ℕ) (w : Judging bs a
     judged-stop m p f = sym (w .same ∙ rw (chunks-step bs end c h seen) (first-stop (chunkRows bs end seen c) _ m p (sym e ∙ f)))
 
     module _ (f : v ≡ Accepted) where
-      judged-passed : Passed bs end seen c
-      judged-passed = chunk-passed bs end seen c (sym e ∙ f)
+      judged-passed : Chunked bs end seen c
+      judged-passed = chunk-ok bs end seen c (sym e ∙ f)
 
       pub judged-head : end ≤ length bs → c + 20 ≤ length bs
-      judged-head l = omega (arith, judged-passed .fits .header)
+      judged-head l = omega (arith, judged-passed .header)
 
       pub judged-fields : end ≤ length bs → isMask bs c ≡ true → c + 36 ≤ length bs
       judged-fields l m = omega (arith, fields-within bs end seen c judged-passed m)
@@ -199,11 +188,11 @@ module _ (bs : List ℕ) (a end c : ℕ) (w : Seeking bs a end c) where
     accepts : first (chunkRows bs end false c) ≡ Accepted
     accepts = first-both (chunkRows bs end false c) _ (rw (chunks-step bs end c h false) at (w .accepted)) .0
 
-    sought-passed : Passed bs end false c
-    sought-passed = chunk-passed bs end false c accepts
+    sought-passed : Chunked bs end false c
+    sought-passed = chunk-ok bs end false c accepts
 
     pub sought-head : end ≤ length bs → c + 20 ≤ length bs
-    sought-head l = omega (arith, sought-passed .fits .header)
+    sought-head l = omega (arith, sought-passed .header)
 
     pub sought-fields : end ≤ length bs → isMask bs c ≡ true → c + 36 ≤ length bs
     sought-fields l m = omega (arith, fields-within bs end false c sought-passed m)

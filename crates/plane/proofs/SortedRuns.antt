@@ -1,8 +1,7 @@
 -- A composer that has its tiles in a list sorted by rank: the list is the definition's own, so a run along it is the composer's whole run.
 use mathlib.Core.Path.{_≡_, refl, sym, ap, ap₂}
 use mathlib.Core.Logic.{⊎-elim}
-use Prim.Native.Nat.{ℕ, suc, _+_, _<_, suc-le-suc}
-use native.Mathlib.Nat.{lt-trans, zero-lt-suc}
+use Prim.Native.Nat.{ℕ, suc, _+_, _<_}
 use native.Mathlib.Numerals.{add-one}
 use native.Mathlib.Omega.{arith}
 use mathlib.Core.List.{List, [], _∷_, reverse, reverse-cons, List·Memᴰ, List·Memᴰ·head, List·Memᴰ·tail, List·Memᴰ·not-nil, List·Memᴰ·cases-cons}
@@ -39,17 +38,6 @@ rising-unique (t ∷ ts) (u ∷ us) r q f g =
         ⊎-elim (λ e. e)
         (λ m. ⊎-elim (λ e. sym e) (λ n. absurd (omega (arith, q .0 t m, r .0 u n))) (List·Memᴰ·cases-cons (g u (List·Memᴰ·head refl))))
         (List·Memᴰ·cases-cons (f t (List·Memᴰ·head refl)))
-
--- a list whose neighbours rise
-pub rising-steps : (l : List Tile) → ((i : ℕ) → suc i < length l → getD l i noTile .rank < getD l (suc i) noTile .rank) → Rising l
-rising-steps [] h = tt
-rising-steps (t ∷ []) h = (λ s m. absurd (List·Memᴰ·not-nil m), tt)
-rising-steps (t ∷ u ∷ us) h =
-    let first : t .rank < u .rank = h 0 (suc-le-suc (zero-lt-suc (length us))) in
-    let rest : Rising (u ∷ us) = rising-steps (u ∷ us) (λ i l. h (suc i) (suc-le-suc l)) in (
-      λ s m. ⊎-elim (λ (e : s ≡ u). rw e first) (λ n. lt-trans first (rest .0 s n)) (List·Memᴰ·cases-cons m),
-      rest,
-    )
 
 -- the tiles in a rising list are in the definition's order
 pub sorted : (ts l : List Tile) → Ranked ts → Rising l

@@ -2,7 +2,7 @@
 use Prim.Native.Nat.{ℕ, zero, suc, _+_, _-_, _/_, _%_, _^_, _≤_, _<_}
 use mathlib.Core.Path.{_≡_, refl}
 use mathlib.Core.Bool.{Bool, true, false, cond}
-use mathlib.Core.List.{[], _∷_, _++_}
+use mathlib.Core.List.{List, [], _∷_, _++_}
 use native.Mathlib.Omega.{arith}
 use lib.ListN.{length, length-append}
 use lib.Dec.{ltb}
@@ -28,33 +28,28 @@ digits-more (suc n) x f h = let e : suc n - 1 ≡ n = omega arith in rw (le-ltb 
 
 -- ---- how many
 
+-- a fact of each of the two values of a test
+cond-case : (P : List ℕ → Type 0) (b : Bool) {l r : List ℕ} → (b ≡ true → P l) → (b ≡ false → P r) → P (cond b l r)
+cond-case P true f g = f refl
+cond-case P false f g = g refl
+
 -- at most n of them
 pub digits-most : (n x : ℕ) → length (digits n x) ≤ n
 unfolding digits
 digits-most zero x = omega arith
-digits-most (suc n) x = go (ltb x 10) (digits-most n (x / 10))
-  where
-    go : (b : Bool) → length (digits n (x / 10)) ≤ n → length (cond b ((48 + x) ∷ []) (digits n (x / 10) ++ ((48 + x % 10) ∷ []))) ≤ suc n
-    go true h = omega arith
-    go false h = simp length-append (omega arith)
+digits-most (suc n) x =
+    cond-case (λ l. length l ≤ suc n) (ltb x 10) (λ e. omega arith) (λ e. simp length-append (omega (arith, digits-most n (x / 10))))
 
 -- at most k of a number below 10 ^ k: of 0 there is one
 pub digits-short : (n k x : ℕ) → 0 < k → x < 10 ^ k → length (digits n x) ≤ k
 unfolding digits
 digits-short zero k x p h = omega arith
 digits-short (suc n) zero x p h = absurd (omega arith)
-digits-short (suc n) (suc k) x p h = go (ltb x 10) refl (λ q l. digits-short n k (x / 10) q l)
-  where
-    tens : (j : ℕ) → x < 10 ^ suc j → 10 ≤ x → (0 < j) × (x / 10 < 10 ^ j)
-    tens zero h l = absurd (omega arith)
-    tens (suc j) h l = (omega arith, omega arith)
-
-    go : (b : Bool) → ltb x 10 ≡ b → (0 < k → x / 10 < 10 ^ k → length (digits n (x / 10)) ≤ k)
-        → length (cond b ((48 + x) ∷ []) (digits n (x / 10) ++ ((48 + x % 10) ∷ []))) ≤ suc k
-    go true e ih = omega arith
-    go false e ih =
-        let t = tens k h (ltb-false x 10 e) in
-        simp length-append (omega (arith, ih (t .0) (t .1)))
+digits-short (suc n) (suc zero) x p h =
+    cond-case (λ l. length l ≤ 1) (ltb x 10) (λ e. omega arith) (λ e. absurd (omega (arith, ltb-false x 10 e)))
+digits-short (suc n) (suc (suc k)) x p h =
+    cond-case (λ l. length l ≤ suc (suc k)) (ltb x 10) (λ e. omega arith)
+    (λ e. simp length-append (omega (arith, digits-short n (suc k) (x / 10) (omega arith) (omega arith))))
 
 pub decimal-most : (x : ℕ) → length (decimal x) ≤ 20
 unfolding decimal
@@ -67,34 +62,17 @@ decimal-short k x p h = digits-short 20 k x p h
 -- an Int in decimal, with its sign
 pub signed-most : (b : ℕ) → b < 2 ^ 32 → length (signedDecimal b) ≤ 11
 unfolding signedDecimal
-signed-most b h = go (ltb b (2 ^ 31))
-  where
-    go : (t : Bool) → length (cond t (45 ∷ decimal (2 ^ 31 - b)) (decimal (b - 2 ^ 31))) ≤ 11
-    go true = omega (arith, decimal-short 10 (2 ^ 31 - b) (omega arith) (omega arith))
-    go false = omega (arith, decimal-short 10 (b - 2 ^ 31) (omega arith) (omega arith))
+signed-most b h =
+    cond-case (λ l. length l ≤ 11) (ltb b (2 ^ 31)) (λ e. omega (arith, decimal-short 10 (2 ^ 31 - b) (omega arith) (omega arith)))
+    (λ e. omega (arith, decimal-short 10 (b - 2 ^ 31) (omega arith) (omega arith)))
 
 -- ---- worked cases
 
-zero-is : decimal 0 ≡ 48 ∷ []
-unfolding decimal digits
-zero-is = refl
-
-ten-is : decimal 10 ≡ 49 ∷ 48 ∷ []
-unfolding decimal digits
-ten-is = refl
-
-largest-is : decimal (2 ^ 64 - 1) ≡ 49 ∷ 56 ∷ 52 ∷ 52 ∷ 54 ∷ 55 ∷ 52 ∷ 52 ∷ 48 ∷ 55 ∷ 51 ∷ 55 ∷ 48 ∷ 57 ∷ 53 ∷ 53 ∷ 49 ∷ 54 ∷ 49 ∷ 53 ∷ []
-unfolding decimal digits
-largest-is = refl
-
-least-is : signedDecimal 0 ≡ 45 ∷ 50 ∷ 49 ∷ 52 ∷ 55 ∷ 52 ∷ 56 ∷ 51 ∷ 54 ∷ 52 ∷ 56 ∷ []
+worked : (decimal 0 ≡ 48 ∷ [])
+    × (decimal 10 ≡ 49 ∷ 48 ∷ [])
+    × (decimal (2 ^ 64 - 1) ≡ 49 ∷ 56 ∷ 52 ∷ 52 ∷ 54 ∷ 55 ∷ 52 ∷ 52 ∷ 48 ∷ 55 ∷ 51 ∷ 55 ∷ 48 ∷ 57 ∷ 53 ∷ 53 ∷ 49 ∷ 54 ∷ 49 ∷ 53 ∷ [])
+    × (signedDecimal 0 ≡ 45 ∷ 50 ∷ 49 ∷ 52 ∷ 55 ∷ 52 ∷ 56 ∷ 51 ∷ 54 ∷ 52 ∷ 56 ∷ [])
+    × (signedDecimal (2 ^ 31 - 1) ≡ 45 ∷ 49 ∷ [])
+    × (signedDecimal (2 ^ 31) ≡ 48 ∷ [])
 unfolding signedDecimal decimal digits
-least-is = refl
-
-minus-one-is : signedDecimal (2 ^ 31 - 1) ≡ 45 ∷ 49 ∷ []
-unfolding signedDecimal decimal digits
-minus-one-is = refl
-
-signed-zero-is : signedDecimal (2 ^ 31) ≡ 48 ∷ []
-unfolding signedDecimal decimal digits
-signed-zero-is = refl
+worked = (refl, refl, refl, refl, refl, refl)

@@ -22,6 +22,9 @@ loop-again c =
     let v = c .before .before .before .loop in
     (omega arith, omega arith, alike-more (c .before .before .before .before .before .args .bg .now) (v .k) (v .inv .2) (c .if1 .left))
 
+returns-2 : tie.Need-returns-2 Inv-loop μ-loop
+returns-2 c = (λ e k h. c .before .loop .inv .2 k (omega arith), λ _. refl)
+
 pub uniform-spec : {M : Type 1} → statement M
 uniform-spec =
     tie.close
@@ -35,4 +38,4 @@ uniform-spec =
     (λ c. omega arith)
     (λ c. omega arith)
     loop-again
-    (λ c. (λ e k h. c .before .loop .inv .2 k (omega arith), λ _. refl)))
+    returns-2)

@@ -15,6 +15,9 @@ Inv-loop dst₀ src p q n i₀ dst i = (i ≤ n) × (dst ≡ moved dst₀ src p 
 abbrev μ-loop : tie.MeasureT-loop
 μ-loop dst₀ src p q n i₀ dst i = n - i
 
+loop-holds : tie.Need-loop-holds Inv-loop μ-loop
+loop-holds c = (omega arith, sym (moved-none _ _ _ _), refl)
+
 loop-again : tie.Need-loop-again Inv-loop μ-loop
 loop-again c =
     let v = c .before .before .loop in
@@ -36,7 +39,7 @@ shift-spec =
     (tie.spec
     Inv-loop
     μ-loop
-    (λ c. (omega arith, sym (moved-none _ _ _ _), refl))
+    loop-holds
     (λ c. omega arith)
     (λ c. omega arith)
     (λ c. omega arith)

@@ -23,6 +23,9 @@ last c =
     let a = c .before .before .before .before .args in
     (omega (arith, last-ones (a .map .now) (λ k. c .shared-slice-known2 .given k .fits) (a .n)), ones-bound (a .n) (a .map .now))
 
+returns-2 : tie.Need-returns-2
+returns-2 c = last c .0
+
 pub count-ones-spec : {M : Type 1} → statement M
 count-ones-spec =
     tie.close
@@ -35,4 +38,4 @@ count-ones-spec =
     (λ c. search needs)
     (λ c. let s = last c in omega arith)
     (λ c. let s = last c in omega arith)
-    (λ c. last c .0))
+    returns-2)

@@ -16,6 +16,9 @@ Inv-loop map n words sum₀ k₀ sum k = (k ≤ words) × (sum ≡ ones (64 * k)
 abbrev μ-loop : tie.MeasureT-loop
 μ-loop map n words sum₀ k₀ sum k = words - k
 
+loop-holds : tie.Need-loop-holds Inv-loop μ-loop
+loop-holds c = (omega arith, no-bits _)
+
 -- the sum with word k, which is at most the bits up to there
 next : (c : tie.After-u64-at Inv-loop μ-loop)
     → let l = c .before .before in
@@ -38,7 +41,7 @@ count-words-spec =
     (tie.spec
     Inv-loop
     μ-loop
-    (λ c. (omega arith, no-bits _))
+    loop-holds
     (λ c. search needs)
     (λ c κs. search needs)
     (λ c. let s = next c in omega arith)

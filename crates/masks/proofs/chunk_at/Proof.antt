@@ -13,5 +13,7 @@ chunk-at-spec =
     (λ c κs. search needs)
     (λ c κs. search needs)
     (λ c κs. c .before .before .before .before .pre .1 (sym (c .before .is-mask .ensures) ∙ c .if1 .taken))
-    (λ c. rw (sym (c .before .before .is-mask .ensures) ∙ c .before .if1 .taken, ← c .before .before .before .chunk-size .ensures .0, ← c .mask-shape .ensures))
+    (λ c.
+    let m = c .before .before in
+    rw (sym (m .is-mask .ensures) ∙ c .before .if1 .taken, ← m .before .chunk-size .ensures .0, ← c .mask-shape .ensures))
     (λ c. rw (sym (c .before .is-mask .ensures) ∙ c .if1 .left, ← c .before .before .chunk-size .ensures .0)))

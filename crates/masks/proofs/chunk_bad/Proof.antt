@@ -9,6 +9,9 @@ use Rattle.masks.proofs.MaskLaws.{any-at}
 use Rattle.masks.proofs.chunk_bad.Statement.{statement}
 use Rattle.masks.proofs.chunk_bad.Tie as tie
 
+chunk-size-requires : tie.Need-chunk-size-requires
+chunk-size-requires c κs = search needs
+
 pub chunk-bad-spec : {M : Type 1} → statement M
 unfolding chunkBad nextChunk
 chunk-bad-spec =
@@ -16,7 +19,7 @@ chunk-bad-spec =
     (tie.spec
     (λ c. search needs)
     (λ c. let a = c .before .before .args in let short : a .end < a .c + 20 = omega arith in any-at _ 0 (lt-ltb _ _ short))
-    (λ c κs. search needs)
+    chunk-size-requires
     (λ c. search flags depth 8)
     (λ c. search needs)
     (λ c. search needs)

@@ -5,6 +5,10 @@ use Rattle.format.specs.Names.{maskGuid}
 use Rattle.masks.proofs.is_mask.Statement.{statement}
 use Rattle.masks.proofs.is_mask.Tie as tie
 
+returns : tie.Need-returns
+unfolding isMask maskGuid
+returns c = search needs
+
 pub is-mask-spec : {M : Type 1} → statement M
 unfolding isMask maskGuid
-is-mask-spec = tie.close (tie.spec (λ c. search needs) (λ c κs. search needs) (λ c. search needs))
+is-mask-spec = tie.close (tie.spec (λ c. search needs) (λ c κs. search needs) returns)

@@ -4,7 +4,7 @@ use native.Mathlib.Omega.{arith}
 use borrow.Author.Needs.{needs}
 use Rattle.format.proofs.Flags.{flags}
 use Rattle.format.specs.Masks.{chunkRows}
-use Rattle.masks.proofs.MaskLaws.{chunk-fits}
+use Rattle.format.proofs.ChunkWalk.{chunk-fits}
 use Rattle.masks.proofs.judge_chunk.Statement.{statement}
 use Rattle.masks.proofs.judge_chunk.Tie as tie
 
@@ -15,6 +15,6 @@ judge-chunk-spec =
     (tie.spec
     (λ c κs. search needs)
     (λ c. search flags depth 8)
-    (λ c κs. omega (arith, chunk-fits _ _ _ (sym (c .before .chunk-bad .ensures) ∙ c .if1 .left) .payload))
+    (λ c κs. omega (arith, chunk-fits _ _ _ (sym (c .before .chunk-bad .ensures) ∙ c .if1 .left) .1))
     (λ c. search flags depth 8)
     (λ c. search flags depth 8))

@@ -19,6 +19,9 @@ next-within : (c : tie.After-struct-known Inv-loop μ-loop)
     l .loop .c + 20 + c .before .chunk-at .result .length ≤ l .before .before .args .end
 next-within c = search judged-within
 
+loop-again : tie.Need-loop-again Inv-loop μ-loop
+loop-again c = search judged-mask
+
 pub judge-chunks-spec : {M : Type 1} → statement M
 judge-chunks-spec =
     tie.close
@@ -35,7 +38,7 @@ judge-chunks-spec =
     (λ c. omega (arith, next-within c))
     (λ c. search needs)
     (λ c. omega (arith, next-within (c .before .before)))
-    (λ c. search judged-mask)
+    loop-again
     (λ c. search needs)
     (λ c. omega (arith, next-within (c .before .before)))
     (λ c. search judged-other)

@@ -28,6 +28,10 @@ module _ (r a q b : ℕ) (e : r ≡ a) (f : q ≡ b) where
     lines-in : 16 + r * q ≤ z → ltb n (16 + a * b) ≡ false
     lines-in h = rw (← e, ← f, ← g) (le-ltb z (16 + r * q) h)
 
+returns-6 : tie.Need-returns-6
+unfolding maskBad
+returns-6 c = any-at _ 5 (search columns-over)
+
 pub mask-bad-spec : {M : Type 1} → statement M
 unfolding maskBad representation
 mask-bad-spec =
@@ -45,7 +49,7 @@ mask-bad-spec =
     (λ c κs. search needs)
     (λ c. search flags depth 9)
     (λ c. search needs)
-    (λ c. any-at _ 5 (search columns-over))
+    returns-6
     (λ c. omega (arith, below 31 (c .before .if5 .left) (c .before .before .before .before .before .if3 .left)))
     (λ c. omega (arith, below 31 (c .before .if5 .left) (c .before .before .before .before .before .if3 .left)))
     (λ c. any-at _ 6 (search lines-over))

@@ -16,6 +16,10 @@ byte-in : (c : tie.After-mask-stride)
     a .c + 36 + a .y * c .mask-stride .result + a .x / 8 < length (now (a .s))
 byte-in c = search byte-read
 
+returns-3 : tie.Need-returns-3
+unfolding maskValid
+returns-3 c = rw (← byte-place, ← c .before .mask-stride .ensures .0, ← c .byte-at .ensures .0) (search flags depth 8)
+
 pub mask-valid-spec : {M : Type 1} → statement M
 unfolding maskValid
 mask-valid-spec =
@@ -33,4 +37,4 @@ mask-valid-spec =
     (λ c κs. byte-in c)
     (λ c. search needs)
     (λ c. search needs)
-    (λ c. rw (← byte-place, ← c .before .mask-stride .ensures .0, ← c .byte-at .ensures .0) (search flags depth 8)))
+    returns-3)
