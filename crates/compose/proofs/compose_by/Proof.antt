@@ -9,6 +9,9 @@ paint-plane-requires c κs =
     let w = c .before .before .before .before in
     plane-room _ _ _ _ (w .before .before .before .examine .ensures) (w .before .enum-told .given .1) (w .window-of .ensures)
 
+returns : tie.Need-returns
+returns c = search refused
+
 pub compose-by-spec : {M : Type 1} → statement M
 compose-by-spec =
     tie.close
@@ -19,7 +22,7 @@ compose-by-spec =
     (λ c κs. call-sides _ _ _ _ (c .before .before .examine .ensures) (c .enum-told .given .1))
     (λ c κs. search needs)
     paint-plane-requires
-    (λ c. search refused)
+    returns
     (λ c. search needs)
     (λ c. search needs)
     (λ c. search done))

@@ -4,6 +4,9 @@ use Rattle.compose.proofs.Examining.{asked-window, ask-stops, ask-passe
 use Rattle.compose.proofs.examine_question.Statement.{statement}
 use Rattle.compose.proofs.examine_question.Tie as tie
 
+returns : tie.Need-returns
+returns c = search ask-stops
+
 pub examine-question-spec : {M : Type 1} → statement M
 examine-question-spec =
     tie.close
@@ -12,5 +15,5 @@ examine-question-spec =
     (λ c. search needs)
     (λ c. search needs)
     (λ c κs. search (needs, asked-window))
-    (λ c. search ask-stops)
+    returns
     (λ c. search ask-passes))

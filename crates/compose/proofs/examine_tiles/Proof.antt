@@ -4,11 +4,17 @@ use Rattle.compose.proofs.Examining.{selects-table, table-chosen, agree
 use Rattle.compose.proofs.examine_tiles.Statement.{statement}
 use Rattle.compose.proofs.examine_tiles.Tie as tie
 
+agree-requires : tie.Need-agree-requires
+agree-requires c κs = (search table-chosen, (search needs, search edges-fit))
+
+returns : tie.Need-returns
+returns c = search (agreed, selects-table)
+
 pub examine-tiles-spec : {M : Type 1} → statement M
 examine-tiles-spec =
     tie.close
     (tie.spec
     (λ c κs. search needs)
     (λ c κs. search sides-fit)
-    (λ c κs. (search table-chosen, (search needs, search edges-fit)))
-    (λ c. search (agreed, selects-table)))
+    agree-requires
+    returns)

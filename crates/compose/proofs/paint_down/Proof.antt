@@ -20,6 +20,9 @@ mul-key c = omega (arith, keys-few (c .before .before .before .before .before .p
 element-copy-out-key : tie.Need-element-copy-out-key Inv-loop μ-loop
 element-copy-out-key c = omega (arith, keys-few (c .before .before .before .before .before .pre))
 
+returns : tie.Need-returns Inv-loop μ-loop
+returns c = search down-end
+
 pub paint-down-spec : {M : Type 1} → statement M
 paint-down-spec =
     tie.close
@@ -36,4 +39,4 @@ paint-down-spec =
     (λ c. search down-next)
     (λ c. search same-target)
     (λ c. search same-map)
-    (λ c. search down-end))
+    returns)

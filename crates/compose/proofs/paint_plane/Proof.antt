@@ -4,6 +4,15 @@ use Rattle.compose.proofs.WholeRun.{run-room, map-room, quick-done, pla
 use Rattle.compose.proofs.paint_plane.Statement.{statement}
 use Rattle.compose.proofs.paint_plane.Tie as tie
 
+gather-requires : tie.Need-gather-requires
+gather-requires c κs = search needs
+
+returns : tie.Need-returns
+returns c = search quick-done
+
+returns-2 : tie.Need-returns-2
+returns-2 c = search plain-done
+
 count-ones-requires : tie.Need-count-ones-requires
 count-ones-requires c κs =
     let u = c .before .before .before .before .before .before in
@@ -18,14 +27,14 @@ paint-plane-spec =
     (tie.spec
     (λ c κs. search needs)
     (λ c κs. search needs)
-    (λ c κs. search needs)
+    gather-requires
     (λ c κs. search run-room)
     (λ c. search needs)
     (λ c. search needs)
-    (λ c. search quick-done)
+    returns
     (λ c κs. search run-room)
     (λ c. search needs)
     count-ones-requires
     (λ c. search needs)
     (λ c. search needs)
-    (λ c. search plain-done))
+    returns-2)

@@ -21,6 +21,9 @@ mul-key c = omega (arith, keys-few (c .before .before .before .before .before .p
 element-copy-out-key : tie.Need-element-copy-out-key Inv-loop μ-loop
 element-copy-out-key c = omega (arith, keys-few (c .before .before .before .before .before .pre))
 
+returns : tie.Need-returns Inv-loop μ-loop
+returns c = search up-end
+
 pub paint-up-spec : {M : Type 1} → statement M
 paint-up-spec =
     tie.close
@@ -37,4 +40,4 @@ paint-up-spec =
     (λ c. search up-next)
     (λ c. search same-target)
     (λ c. search same-map)
-    (λ c. search up-end))
+    returns)

@@ -10,6 +10,9 @@ paint-behind-requires c κs =
     let a = c .before .before .before .before .before .before .before in
     (a .pre .0, lines-room _ (mask-lined (a .pre .1 .0) (a .pre .1 .1)) (omega arith))
 
+returns : tie.Need-returns
+returns c = search painted-masked
+
 pub paint-entry-masked-spec : {M : Type 1} → statement M
 paint-entry-masked-spec =
     tie.close
@@ -21,4 +24,4 @@ paint-entry-masked-spec =
     paint-behind-requires
     (λ c. search needs)
     (λ c. search needs)
-    (λ c. search painted-masked))
+    returns)
