@@ -1,4 +1,4 @@
--- A target painted and a map marked in two parts, before pixel j and from there on: they are painted and marked once.
+-- A target painted and a map marked in two parts, before pixel j and from it on: it is as if done at once.
 use mathlib.Core.Path.{_≡_, sym, _∙_, subst}
 use Prim.Native.Nat.{ℕ, _+_, _*_, _/_, _%_, _≤_, _<_}
 use native.Mathlib.Nat.{div-add-mod', mod-lt}
@@ -32,7 +32,8 @@ module _ {j k : ℕ} (l : j ≤ k) (on on₂ : ℕ → Bool) where
       (λ p q hq h. paint-pixel k b _ px₂ _ p q hq (rw (paint-length j b on px t) h)
       ∙ rw (paint-pixel j b on px t p q hq h) (merge p q hq (getD t (p * b + q) 0)))
     where
-      merge : (p q : ℕ) → q < b → (y : ℕ) → cond (ltb p k && (leb j p && on₂ p)) (px₂ p q) (cond (ltb p j && on p) (px p q) y) ≡ cond (ltb p k && on p) (px p q) y
+      merge : (p q : ℕ) → q < b → (y : ℕ)
+          → cond (ltb p k && (leb j p && on₂ p)) (px₂ p q) (cond (ltb p j && on p) (px p q) y) ≡ cond (ltb p k && on p) (px p q) y
       merge p q hq y =
           by-range j k p (λ h. rw (lt-leb j p h, lt-ltb p j h, lt-ltb p k (omega arith)))
           (λ h i. rw (le-leb j p h, le-ltb p j h, lt-ltb p k i, e p h i, f p q h i hq))

@@ -35,7 +35,8 @@ pub record RowRoom (dst m src line : List ℕ) (row : Row) (n : ℕ) : Type 0 wh
   pub columns : row .column + n < 2 ^ 64
   pub number : row .first + n < 2 ^ 64
 
--- the row's part of a turn: these pixels are given from the source, the valid ones' bits are set, nothing else changes, and the result is the number of the given ones
+-- the row's part of a turn: these pixels are given from the source, the valid ones' bits are set, nothing else changes, and the result is the number
+-- of the given ones
 pub record RowPainted (dst m src line : List ℕ) (row : Row) (n : ℕ) (dst′ m′ : List ℕ) (r : ℕ) : Type 0 where
   pub target : dst′ ≡ paint n (row .bytes) (rowGives m line row) (λ i j. getD src (i * row .bytes + j) 0) dst
   pub map : m′ ≡ mark (row .first + n) (λ p. leb (row .first) p && validAt line row (p - row .first)) m
@@ -47,6 +48,15 @@ pub record RowPainted (dst m src line : List ℕ) (row : Row) (n : ℕ) (dst′ 
 pub record SpanRoom (dst m src line : List ℕ) (row : Row) (i j : ℕ) : Type 0 where
   pub order : i ≤ j
   pub room : RowRoom dst m src line row j
+
+-- the bytes and the map bits of the span's pixels are there; `begin` follows from `order`
+pub record SpanBytes (dst m src : List ℕ) (row : Row) (i j : ℕ) : Type 0 where
+  pub order : i ≤ j
+  pub begin : i * row .bytes ≤ j * row .bytes
+  pub target : j * row .bytes ≤ length dst
+  pub source : j * row .bytes ≤ length src
+  pub bits : row .first + j ≤ 8 * length m
+  pub number : row .first + j < 2 ^ 64
 
 -- the span's part of the row's
 pub record SpanPainted (dst m src line : List ℕ) (row : Row) (i j : ℕ) (dst′ m′ : List ℕ) (r : ℕ) : Type 0 where

@@ -3,7 +3,7 @@ ghost use mathlib.Core.Path.{_≡_};
 ghost use mathlib.Core.Bool.{true};
 ghost use Prim.Native.Nat.{_+_, _*_, _<_, _≤_, _^_};
 ghost use lib.ListN.{length};
-ghost use Rattle.paint.specs.RowPainting.{RowRoom, RowPainted, SpanRoom, SpanPainted, SpanGiven, Stepped, Open, validAt, rowGives};
+ghost use Rattle.paint.specs.RowPainting.{RowRoom, RowPainted, SpanRoom, SpanBytes, SpanPainted, SpanGiven, Stepped, Open, validAt, rowGives};
 
 // What of a row's part of a turn does not change along the row: the number of its first pixel's map bit, the bytes of a pixel, whether the tile is
 // masked, how many columns the mask's line has, which of them is the first pixel's, and whether the turn is quick.
@@ -115,7 +115,7 @@ fn short_end(i: usize, j: usize, p: usize) -> usize
 
 // The pixels from i up to j, all of them given.
 fn give_span(dst: &mut [u8], map: &mut [u8], src: &[u8], row: Row, i: usize, j: usize)
-    requires { ⌜ (i ≤ j) × (j * row .bytes ≤ length (now dst)) × (j * row .bytes ≤ length (now src)) × (row .first + j ≤ 8 * length (now map)) × (row .first + j < 2 ^ 64) ⌝ }
+    requires { ⌜ SpanBytes (now dst) (now map) (now src) row i j ⌝ }
     ensures { λ _. ⌜ SpanGiven (now (dst .entry)) (now (map .entry)) (now (src .entry)) row i j (now (dst .exit)) (now (map .exit)) ⌝ }
 {
     copies::copy_range(dst, src, i * row.bytes, j * row.bytes);

@@ -1,15 +1,17 @@
 -- A tile by its rectangle, in a window: which of the window's pixels it gives, by their number, and with which bytes.
-use mathlib.Core.Path.{_≡_, refl, sym, subst}
+use mathlib.Core.Path.{_≡_, subst}
+use mathlib.Core.Logic.{by-cases}
 use Prim.Native.Nat.{ℕ, _+_, _*_, _-_, _/_, _%_, _≤_, _<_}
 use native.Mathlib.Nat.{add-sub-of-le, mul-le-mul-right}
+use native.Mathlib.Decide.{decLt}
 use native.Mathlib.Omega.{arith}
 use mathlib.Core.List.{List}
-use mathlib.Core.Bool.{Bool, true, false, _&&_, true≢false}
+use mathlib.Core.Bool.{Bool, true, false, _&&_, and-false}
 use lib.Arith.{digits-div, digits-mod}
 use lib.Dec.{ltb, leb}
 use lib.ListN.{length, getD, drop}
 use lib.Seq.{getD-drop}
-use borrow.Author.Tests.{lt-ltb, le-ltb, le-leb, leb-true, ltb-true}
+use borrow.Author.Tests.{lt-ltb, le-ltb, le-leb, lt-leb}
 use Rattle.plane.specs.Tiles.{colOf, rowOf, covers}
 use Rattle.plane.specs.Paint.{bit}
 use Rattle.plane.specs.Cuts.{Inside}
@@ -17,6 +19,7 @@ use Rattle.plane.proofs.Tests.{by-bool}
 use Rattle.plane.specs.declared.Rect.{Rect}
 use Rattle.paint.specs.declared.Row.{Row}
 use Rattle.paint.specs.RowPainting.{validAt}
+use Rattle.paint.proofs.Painting.{by-range}
 use Rattle.turns.specs.TileOf.{validIn}
 use Rattle.turns.specs.Turned.{LineOf}
 use Rattle.turns.specs.declared.Mask.{Mask}
@@ -38,23 +41,15 @@ in-row w y p l h =
 pub part-end : (i n b : ℕ) → i < n → i * b + b ≤ n * b
 part-end i n b h = omega (arith, mul-le-mul-right b h)
 
-both : (x y : Bool) → (x && y) ≡ true → (x ≡ true) × (y ≡ true)
-both true y e = (refl, e)
-both false y e = absurd (true≢false (sym e))
-
--- the test of a rectangle, as facts
-inside : (a : Rect) (u v : ℕ) → covers a u v ≡ true → Inside a u v
-unfolding covers
-inside a u v e =
-    let h = both (leb (a .left) u && ltb u (a .left + a .width)) _ e in
-    let l = both (leb (a .left) u) _ (h .0) in
-    let t = both (leb (a .top) v) _ (h .1) in
-    record { left = leb-true _ _ (l .0); right = ltb-true _ _ (l .1); top = leb-true _ _ (t .0); bottom = ltb-true _ _ (t .1) }
-
 module _ (w a : Rect) (k : Mask) (lines : List ℕ) (p : ℕ) where
   pub off : (Inside a (colOf w p) (rowOf w p) → ⊥) → tileGives w a k lines p ≡ false
-  unfolding tileGives
-  off n = by-bool (covers a (colOf w p) (rowOf w p)) (λ e. absurd (n (inside a _ _ e))) (λ e. rw e)
+  unfolding tileGives covers
+  off n =
+      by-range (a .left) (a .left + a .width) (colOf w p) (λ h. rw (lt-leb _ _ h))
+      (λ h i. by-range (a .top) (a .top + a .height) (rowOf w p) (λ j. rw (le-leb _ _ h, lt-ltb _ _ i, lt-leb _ _ j))
+      (λ j g. absurd (n (record { left = h; right = i; top = j; bottom = g })))
+      (λ j. rw (le-leb _ _ h, lt-ltb _ _ i, le-ltb _ _ j, and-false (leb (a .top) (rowOf w p)))))
+      (λ h. rw (le-ltb _ _ h, and-false (leb (a .left) (colOf w p))))
 
   pub here : Inside a (colOf w p) (rowOf w p) → tileGives w a k lines p ≡ validIn k lines (colOf w p - a .left) (rowOf w p - a .top)
   unfolding tileGives covers
@@ -65,7 +60,18 @@ module _ (w a : Rect) (k : Mask) (lines : List ℕ) (p : ℕ) where
   unfolding tileByte
   byte-here b src e f j = rw (e, f)
 
--- the mask's line
+-- ---- the mask's line
+
+module _ {k : Mask} {r : ℕ} where
+  pub line-in : k .on ≡ true → r < k .height → LineOf k r (record { start = r * k .stride; width = k .width })
+  line-in e h = record { start = rw (e, lt-ltb _ _ h); width = rw (e, lt-ltb _ _ h) }
+
+  pub line-past : k .on ≡ true → k .height ≤ r → LineOf k r (record { start = 0; width = 0 })
+  line-past e h = record { start = rw (e, le-ltb _ _ h); width = rw (e, le-ltb _ _ h) }
+
+  pub line-off : k .on ≡ false → LineOf k r (record { start = 0; width = 0 })
+  line-off e = record { start = rw e; width = rw e }
+
 pub valid-line : (k : Mask) (lines : List ℕ) (r : ℕ) (l : MaskLine) → LineOf k r l → (row : Row) → row .masked ≡ k .on → row .columns ≡ l .width → (i : ℕ)
     → validAt (drop (l .start) lines) row i ≡ validIn k lines (row .column + i) r
 unfolding validIn bit
@@ -79,6 +85,8 @@ valid-line k lines r l e row m c i =
 pub line-room : (lines : List ℕ) {k : Mask} {r : ℕ} {l : MaskLine} → LineOf k r l → k .width ≤ 8 * k .stride → k .height * k .stride ≤ length lines
     → (l .start ≤ length lines) × (l .width ≤ 8 * (length lines - l .start))
 line-room lines {k} {r} f e h =
-    by-bool (k .on && ltb r (k .height))
-    (λ d. let z = part-end r (k .height) (k .stride) (ltb-true _ _ (both (k .on) _ d .1)) in rw (f .start, f .width, d) (omega arith, omega arith))
-    (λ d. rw (f .start, f .width, d) (omega arith, omega arith))
+    by-bool (k .on)
+    (λ o. by-cases (decLt r (k .height))
+    (λ i. let z = part-end r (k .height) (k .stride) i in rw (f .start, f .width, o, lt-ltb _ _ i) (omega arith, omega arith))
+    (λ i. rw (f .start, f .width, o, le-ltb r (k .height) (omega arith)) (omega arith, omega arith)))
+    (λ o. rw (f .start, f .width, o) (omega arith, omega arith))

@@ -1,10 +1,10 @@
 -- The loop over the rows of a tile in a window.
 use mathlib.Core.Path.{_≡_, refl, sym, ap, ap₂, _∙_}
-use Prim.Native.Nat.{ℕ, _+_, _*_, _-_, _/_, _%_, _^_, _≤_, _<_, min, max}
+use Prim.Native.Nat.{ℕ, _+_, _*_, _-_, _^_, _≤_, _<_, min, max}
 use native.Mathlib.Nat.{mul-le-mul-right, le-trans, le-mul-of-pos-right, lt-of-le-of-lt, div-lt-iff-lt-mul, le-div-iff-mul-le, mod-lt}
 use native.Mathlib.Omega.{arith}
 use mathlib.Core.List.{List}
-use mathlib.Core.Bool.{Bool, false}
+use mathlib.Core.Bool.{Bool}
 use lib.ListN.{length, getD, drop}
 use mir.Syntax.{w64}
 use mir.Val.{Fits}
@@ -17,7 +17,7 @@ use Rattle.plane.specs.declared.Rect.{Rect}
 use Rattle.paint.specs.declared.Row.{Row}
 use Rattle.paint.specs.RowPainting.{validAt, givesPixel, rowGives}
 use Rattle.turns.specs.TileOf.{validIn, tileOf}
-use Rattle.turns.specs.Turned.{kindOf, LineOf, StretchRoom, StretchPainted, TurnRoom, Turned, Clipped}
+use Rattle.turns.specs.Turned.{LineOf, StretchRoom, StretchPainted, TurnRoom, Turned, Clipped}
 use Rattle.turns.specs.declared.Mask.{Mask}
 use Rattle.turns.specs.declared.MaskLine.{MaskLine}
 use Rattle.turns.specs.declared.Clip.{Clip}
@@ -52,12 +52,9 @@ pub record Rows (t₀ m₀ : List ℕ) (w a : Rect) (src : List ℕ) (b : ℕ) (
 abbrev rowAt : Rect → ℕ → Mask → Bool → ℕ → ℕ → ℕ → MaskLine → Row
 rowAt w b k q x col y e = record { first = y * w .width + col; bytes = b; masked = k .on; columns = e .width; column = x; quick = q }
 
--- z past the start p of a part of v, the parts being s in all, which fit
-part : (p v s z : ℕ) → p + v ≤ s → s < 2 ^ 64 → z ≤ v → Fits w64 (p + z)
-part p v s z e f c = omega arith
-
-first-of : (p v s : ℕ) → p + v ≤ s → s < 2 ^ 64 → Fits w64 p
-first-of p v s e f = omega arith
+-- n pixels of b bytes, x past the start z of a part of v pixels, end where all s parts end
+ends : (z v x n s b r : ℕ) → z + v ≤ s → x + n ≤ v → s * b ≤ r → (z + x) * b + n * b ≤ r
+ends z v x n s b r e c f = let g : z + x + n ≤ s = omega arith in omega (arith, mul-le-mul-right b g)
 
 -- a pixel's number in the source, times its bytes
 spread : (z x i b j : ℕ) → (z + x) * b + i * b + j ≡ (z + (x + i)) * b + j
@@ -73,7 +70,7 @@ module _ {t₀ m₀ : List ℕ} {w a : Rect} {src : List ℕ} {b : ℕ} {k : Mas
     (r : TurnRoom t₀ m₀ w a src b k lines) (h : Bytes m₀) (e : Clipped w a c) where
   -- no pixel before number n is the tile's
   none : (n : ℕ) → ((p : ℕ) → p < n → Inside a (colOf w p) (rowOf w p) → ⊥) → Done b (gives w a k lines q m₀) (tileByte w a b src) t₀ m₀ n t₀ m₀ 0
-  none n f = done-more (r .room .bytes) h (done-none (r .room .bytes) h) (omega arith) (λ p _ l. rw (off w a k lines p (f p l)))
+  none n f = done-none (r .room .bytes) h n (λ p l. rw (off w a k lines p (f p l)))
 
   pub rows-beside : c .right ≤ c .left → Turned t₀ m₀ w a src b k lines q t₀ m₀ 0
   rows-beside l = turned (none (area w) (λ p _ i. omega (arith, mod-lt p (r .room .wide))))
@@ -134,37 +131,16 @@ module _ {t₀ m₀ : List ℕ} {w a : Rect} {src : List ℕ} {b : ℕ} {k : Mas
     source-fits = lt-of-le-of-lt (le-trans (le-mul-of-pos-right (a .height * a .width) hb) (o .meet .room .source)) (o .meet .sources)
 
     source-within : ((y + w .top - a .top) * a .width + x) * b + n * b ≤ length src
-    source-within = within ((y + w .top - a .top) * a .width) (mul-le-mul-right b (pixels ((y + w .top - a .top) * a .width) source-end)) (o .meet .room .source)
-      where
-        pixels : (z : ℕ) → z + a .width ≤ a .height * a .width → z + x + n ≤ a .height * a .width
-        pixels z e = omega arith
-
-        within : (z : ℕ) {s r : ℕ} → (z + x + n) * b ≤ s → s ≤ r → (z + x) * b + n * b ≤ r
-        within z e f = omega arith
-
-    pub row-sum : Fits w64 (y + w .top)
-    row-sum = omega arith
-
-    pub row-above : a .top ≤ y + w .top
-    row-above = omega arith
-
-    pub row-held : k .height * k .stride < 2 ^ 64
-    row-held = lt-of-le-of-lt (o .meet .room .mask) (o .meet .masks)
-
-    pub row-start : Fits w64 (y * w .width)
-    row-start = first-of _ _ _ row-end window-fits
+    source-within = ends _ _ x n _ b _ source-end (omega arith) (o .meet .room .source)
 
     pub row-first : Fits w64 (y * w .width + col)
-    row-first = part _ _ _ col row-end window-fits (omega arith)
-
-    pub source-row : Fits w64 ((y + w .top - a .top) * a .width)
-    source-row = first-of _ _ _ source-end source-fits
+    row-first = omega (arith, row-end, window-fits)
 
     pub source-pixel : Fits w64 ((y + w .top - a .top) * a .width + x)
-    source-pixel = part _ _ _ x source-end source-fits (omega arith)
+    source-pixel = omega (arith, source-end, source-fits)
 
     pub source-byte : Fits w64 (((y + w .top - a .top) * a .width + x) * b)
-    source-byte = first-of _ _ _ source-within (o .meet .sources)
+    source-byte = omega (arith, source-within)
 
     -- ---- and the row painter has room
     row-pixels : y * w .width + col + n ≤ w .height * w .width
@@ -193,37 +169,33 @@ module _ {t₀ m₀ : List ℕ} {w a : Rect} {src : List ℕ} {b : ℕ} {k : Mas
         done =
             done-more hb (o .meet .bytes)
             (done-stretch hb (o .meet .bytes)
-            (done-more hb (o .meet .bytes) (o .done) (omega arith) (λ p h i. rw (off w a k lines p (λ j. let z = place p h (omega arith) in omega arith))))
+            (done-more hb (o .meet .bytes) (o .done) (omega arith)
+            (λ p h i. rw (off w a k lines p (λ j. omega (arith, in-row (w .width) y p h (omega arith))))))
             c (le-trans row-pixels (o .meet .room .room .map)) valid source)
-            (omega (arith, row-end)) (λ p h i. rw (off w a k lines p (λ j. let z = place p (omega arith) (omega arith) in omega arith)));
+            (omega (arith, row-end)) (λ p h i. rw (off w a k lines p (λ j. omega (arith, in-row (w .width) y p (omega arith) (omega arith)))));
       }
         where
-          place : (p : ℕ) → y * w .width ≤ p → p < y * w .width + w .width → (p / w .width ≡ y) × (p % w .width ≡ p - y * w .width)
-          place p h i = in-row (w .width) y p h i
+          first : ℕ
+          first = y * w .width + col
 
-          at-col : (p : ℕ) → y * w .width + col ≤ p → p < y * w .width + col + n → colOf w p - a .left ≡ x + (p - (y * w .width + col))
-          at-col p h i = let z = place p (omega arith) (omega arith) in omega arith
+          at : (p : ℕ) → first ≤ p → p < first + n
+              → Inside a (colOf w p) (rowOf w p) × (colOf w p - a .left ≡ x + (p - first)) × (rowOf w p - a .top ≡ y + w .top - a .top)
+          at p h i =
+              let z = in-row (w .width) y p (omega arith) (omega arith) in
+              (record { left = omega arith; right = omega arith; top = omega arith; bottom = omega arith }, omega arith, omega arith)
 
-          at-row : (p : ℕ) → y * w .width + col ≤ p → p < y * w .width + col + n → rowOf w p - a .top ≡ y + w .top - a .top
-          at-row p h i = let z = place p (omega arith) (omega arith) in omega arith
-
-          inside : (p : ℕ) → y * w .width + col ≤ p → p < y * w .width + col + n → Inside a (colOf w p) (rowOf w p)
-          inside p h i =
-              let z = place p (omega arith) (omega arith) in
-              record { left = omega arith; right = omega arith; top = omega arith; bottom = omega arith }
-
-          valid : (p : ℕ) → y * w .width + col ≤ p → p < y * w .width + col + n
-              → gives w a k lines q m₀ p ≡ givesPixel q (validAt (drop (e .start) lines) (rowAt w b k q x col y e) (p - (y * w .width + col))) (bit m₀ p)
+          valid : (p : ℕ) → first ≤ p → p < first + n
+              → gives w a k lines q m₀ p ≡ givesPixel q (validAt (drop (e .start) lines) (rowAt w b k q x col y e) (p - first)) (bit m₀ p)
           valid p h i =
-              ap (λ (z : Bool). givesPixel q z (bit m₀ p))
-              (here w a k lines p (inside p h i) ∙ ap₂ (validIn k lines) (at-col p h i) (at-row p h i)
-              ∙ sym (valid-line k lines _ e f (rowAt w b k q x col y e) refl refl (p - (y * w .width + col))))
+              let z = at p h i in
+              ap (λ (v : Bool). givesPixel q v (bit m₀ p))
+              (here w a k lines p (z .0) ∙ ap₂ (validIn k lines) (z .1) (z .2) ∙ sym (valid-line k lines _ e f (rowAt w b k q x col y e) refl refl (p - first)))
 
-          source : (p j : ℕ) → y * w .width + col ≤ p → p < y * w .width + col + n → j < b
-              → getD src (((y + w .top - a .top) * a .width + x) * b + (p - (y * w .width + col)) * b + j) 0 ≡ tileByte w a b src p j
+          source : (p j : ℕ) → first ≤ p → p < first + n → j < b
+              → getD src (((y + w .top - a .top) * a .width + x) * b + (p - first) * b + j) 0 ≡ tileByte w a b src p j
           source p j h i _ =
-              ap (λ (z : ℕ). getD src z 0) (spread ((y + w .top - a .top) * a .width) x (p - (y * w .width + col)) b j)
-              ∙ sym (byte-here w a k lines p b src (at-col p h i) (at-row p h i) j)
+              let z = at p h i in
+              ap (λ (v : ℕ). getD src v 0) (spread ((y + w .top - a .top) * a .width) x (p - first) b j) ∙ sym (byte-here w a k lines p b src (z .1) (z .2) j)
 
     -- what the rows give in all
     pub rows-sum : {from line : ℕ} {row : Row} {t′ m′ : List ℕ} {r : ℕ} → StretchPainted t m src from lines line row n t′ m′ r → Fits w64 (g + r)

@@ -4,11 +4,11 @@ use Prim.Native.Nat.{ℕ, _+_, _*_, _-_, _≤_, _<_}
 use native.Mathlib.Nat.{add-sub-of-le, add-sub-cancel-left, le-add-right}
 use native.Mathlib.Omega.{arith}
 use mathlib.Core.List.{List}
-use mathlib.Core.Bool.{Bool, true, false, _&&_, _||_, and-true, and-false}
+use mathlib.Core.Bool.{Bool, true, false, _||_, and-true, and-false}
 use lib.Dec.{leb}
 use lib.ListN.{length, getD, drop}
 use borrow.Author.Tests.{le-ltb}
-use Rattle.plane.specs.Sums.{one, sum, count}
+use Rattle.plane.specs.Sums.{one, count}
 use Rattle.plane.specs.Tiles.{Tile, area, colOf, rowOf, givesAt}
 use Rattle.plane.specs.Paint.{bit, paint, mark}
 use Rattle.plane.specs.Turns.{Painting, turnGives, turn}
@@ -34,15 +34,14 @@ gives-or true true false = refl
 gives-or false true s = refl
 
 module _ {b : ℕ} {on : ℕ → Bool} {px : ℕ → ℕ → ℕ} {t₀ m₀ : List ℕ} (hb : 1 ≤ b) (hm : Bytes m₀) where
-  pub done-none : Done b on px t₀ m₀ 0 t₀ m₀ 0
-  unfolding sum
-  done-none = record {
-    target = sym (paint-none 0 b _ _ t₀ hb (λ p l. absurd (omega arith)));
-    map = sym (mark-noop 0 _ m₀ (λ k _. hm k) (λ p l. absurd (omega arith)));
-    given = refl;
+  -- pixels of which none is given are done with nothing, from the first on and after others
+  pub done-none : (n : ℕ) → ((p : ℕ) → p < n → on p ≡ false) → Done b on px t₀ m₀ n t₀ m₀ 0
+  done-none n off = record {
+    target = sym (paint-none n b _ _ t₀ hb off);
+    map = sym (mark-noop n _ m₀ (λ k _. hm k) (λ p l. rw (off p l)));
+    given = sym (count-none n _ off);
   }
 
-  -- pixels of which none is given are done with nothing
   pub done-more : {n n′ : ℕ} {t m : List ℕ} {g : ℕ} → Done b on px t₀ m₀ n t m g → n ≤ n′ → ((p : ℕ) → n ≤ p → p < n′ → on p ≡ false)
       → Done b on px t₀ m₀ n′ t m g
   done-more {n} {n′} o l off = record {
@@ -52,15 +51,11 @@ module _ {b : ℕ} {on : ℕ → Bool} {px : ℕ → ℕ → ℕ} {t₀ m₀ : L
     map =
         o .map ∙ sym (mark-noop n′ _ _ (λ k _. mark-bytes n on m₀ hm k) (λ p _. rw (and-false (leb n p))))
         ∙ mark-then l on (λ _. false) m₀ hm (λ p h i. rw (off p h i));
-    given =
-        o .given
-        ∙ omega (
-          arith,
-          sum-add n (n′ - n) (λ i. one (on i)),
-          count-none (n′ - n) (λ i. on (n + i)) (λ i h. off (n + i) (omega arith) (omega arith)),
-          ap (λ (z : ℕ). count z on) (add-sub-of-le l),
-        );
+    given = o .given ∙ omega (arith, rw (add-sub-of-le l) at (sum-add n (n′ - n) (λ i. one (on i))), rest);
   }
+    where
+      rest : count (n′ - n) (λ i. on (n + i)) ≡ 0
+      rest = count-none _ _ (λ i h. off (n + i) (omega arith) (omega arith))
 
 -- a stretch
 module _ {row : Row} {on : ℕ → Bool} {px : ℕ → ℕ → ℕ} {t₀ m₀ : List ℕ} (hb : 1 ≤ row .bytes) (hm : Bytes m₀) where

@@ -29,7 +29,8 @@ pub record LineOf (k : Mask) (r : ℕ) (l : MaskLine) : Type 0 where
   pub start : l .start ≡ cond (k .on && ltb r (k .height)) (r * k .stride) 0
   pub width : l .width ≡ cond (k .on && ltb r (k .height)) (k .width) 0
 
--- ---- a row's stretch: n pixels of the target from that of the row's first map bit on, n of the source from byte `from` on, the mask's line from byte `line` on
+-- ---- a row's stretch: n pixels of the target, from that of the row's first map bit on, and of the source, from byte `from` on; the mask's line is from byte
+-- `line` on
 
 pub record StretchRoom (t m src : List ℕ) (from : ℕ) (lines : List ℕ) (line : ℕ) (row : Row) (n : ℕ) : Type 0 where
   pub bytes : 1 ≤ row .bytes

@@ -59,16 +59,16 @@ pub fn mask_line(k: Mask, row: usize) -> MaskLine
     requires { ⌜ k .height * k .stride < 2 ^ 64 ⌝ }
     ensures { λ r. ⌜ LineOf k row r ⌝ }
 {
-    if !k.on {
+    if k.on {
+        if row < k.height {
+            return MaskLine {
+                start: row * k.stride,
+                width: k.width,
+            };
+        }
         return MaskLine { start: 0, width: 0 };
     }
-    if k.height <= row {
-        return MaskLine { start: 0, width: 0 };
-    }
-    MaskLine {
-        start: row * k.stride,
-        width: k.width,
-    }
+    MaskLine { start: 0, width: 0 }
 }
 
 // A row's part of a turn: the row's stretch, which starts in the middle of the lent target, is lent on to the row painter.

@@ -1,6 +1,4 @@
 -- `paint::is_given` meets its contract.
-use mathlib.Core.Path.{ap}
-use mathlib.Core.Bool.{not}
 use borrow.Author.Needs.{needs}
 use Rattle.paint.proofs.Steps.{plain-gives}
 use Rattle.paint.proofs.is_given.Statement.{statement}
@@ -16,6 +14,6 @@ is-given-spec =
     (λ c κs. search needs)
     (λ c. search needs)
     (λ c κs. search needs)
-    (λ c. let e = c .before .before in rw (← e .before .before .valid-at .ensures, e .before .if1 .taken, e .if2 .taken) (ap not (c .bit-at .ensures)))
+    (λ c. let e = c .before .before in rw (← e .before .before .valid-at .ensures, e .before .if1 .taken, e .if2 .taken, ← c .bit-at .ensures))
     returns-2
     (λ c. rw (← c .before .valid-at .ensures, c .if1 .left)))

@@ -1,11 +1,9 @@
--- `paint::paint_masked` meets its contract: the invariant is what the contract says, of the pixels passed.
+-- `paint::paint_masked` meets its contract.
 use Prim.Native.Nat.{_-_}
 use native.Mathlib.Omega.{arith}
 use borrow.Author.Needs.{needs}
-use Rattle.paint.proofs.Rooms.{room-less}
-use Rattle.paint.proofs.Spans.{lent-bytes, span-rest}
-use Rattle.paint.proofs.Steps.{past-mask, open-behind}
-use Rattle.paint.proofs.Along.{Along, along-start, along-target, along-map, along-room, along-sum, along-next}
+use Rattle.paint.proofs.Steps.{open-behind}
+use Rattle.paint.proofs.Along.{Along, room-less, lent-bytes, span-target, span-map, along-start, along-room, along-sum, along-next, along-masked}
 use Rattle.paint.proofs.paint_masked.Statement.{statement}
 use Rattle.paint.proofs.paint_masked.Tie as tie
 
@@ -17,24 +15,8 @@ abbrev μ-loop : tie.MeasureT-loop
 
 step-mask-requires : tie.Need-step-mask-requires Inv-loop μ-loop
 step-mask-requires c κs =
-    let l = c .before .before in
-    let v = l .before .loop .inv in
-    let e = l .before .before in
-    let q = e .before .before .before .before .before .pre in (
-      l .loop-test .taken,
-      along-room v,
-      q .1,
-      open-behind (v .painted) (q .2) (v .low) (e .columns-end .ensures .1) (q .0 .room .bits),
-      e .columns-end .ensures .2 (omega arith),
-    )
-
-returns : tie.Need-returns Inv-loop μ-loop
-returns c =
-    let v = c .before .loop .inv in
-    let e = c .before .before in
-    let s = e .before .before .before .before .before in
-    span-rest (v .room .bytes) (v .bytes) (v .low) (omega arith) (s .pre .0 .room .bits) (v .painted)
-    (λ p l h. past-mask _ _ (s .args .row) p (s .pre .1) (omega (arith, e .columns-end .ensures .3 (omega arith))))
+    let e = c .before .before .before .before in
+    (search needs, search along-room, search needs, search open-behind, e .columns-end .ensures .2 (omega arith))
 
 pub paint-masked-spec : {M : Type 1} → statement M
 paint-masked-spec =
@@ -48,6 +30,6 @@ paint-masked-spec =
     (λ c. search along-sum)
     (λ c. omega arith)
     (λ c. search along-next)
-    (λ c. search along-target)
-    (λ c. search along-map)
-    returns)
+    (λ c. search span-target)
+    (λ c. search span-map)
+    (λ c. search along-masked))

@@ -1,4 +1,5 @@
 -- `paint::paint_open` meets its contract.
+use Rattle.paint.proofs.Rooms.{may-give}
 use Rattle.paint.proofs.Steps.{open-all}
 use borrow.Author.Needs.{needs}
 use Rattle.paint.proofs.paint_open.Statement.{statement}
@@ -12,7 +13,7 @@ paint-open-spec =
     (λ c. search needs)
     (λ c. search needs)
     (λ c. search needs)
-    (λ c κs. search needs)
+    (λ c κs. search may-give)
     (λ c. search needs)
     (λ c. search needs)
     (λ c. search needs)

@@ -1,6 +1,5 @@
 -- `paint::paint_pixel` meets its contract.
-use Rattle.paint.proofs.Spans.{lent-bytes, is-so}
-use Rattle.paint.proofs.Steps.{pixel-left, pixel-given}
+use Rattle.paint.proofs.Steps.{lent-bytes, pixel-left, pixel-given}
 use borrow.Author.Needs.{needs}
 use Rattle.paint.proofs.paint_pixel.Statement.{statement}
 use Rattle.paint.proofs.paint_pixel.Tie as tie
@@ -16,6 +15,6 @@ paint-pixel-spec =
     (λ c κs. search needs)
     (λ c. search needs)
     (λ c. search needs)
-    (λ c. search (pixel-given, is-so))
+    (λ c. search pixel-given)
     (λ c. search needs)
-    (λ c. search (pixel-left, lent-bytes, is-so)))
+    (λ c. search (pixel-left, lent-bytes)))

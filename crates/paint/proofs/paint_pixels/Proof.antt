@@ -1,11 +1,9 @@
--- `paint::paint_pixels` meets its contract: the invariant is what the contract says, of the pixels passed.
+-- `paint::paint_pixels` meets its contract.
 use mathlib.Core.Path.{_≡_, refl}
-use Prim.Native.Nat.{_+_, _*_, _-_, _≤_}
-use native.Mathlib.Nat.{mul-le-mul-right}
+use Prim.Native.Nat.{_*_, _-_}
+use native.Mathlib.Numerals.{lt-add-one, add-one-le}
 use native.Mathlib.Omega.{arith}
-use Rattle.paint.proofs.Rooms.{room-less}
-use Rattle.paint.proofs.Spans.{lent-bytes}
-use Rattle.paint.proofs.Along.{Along, along-start, along-target, along-map, along-room, along-byte, along-all, pixel-sum, pixel-next}
+use Rattle.paint.proofs.Along.{Along, may-give, lent-bytes, span-target, span-map, along-start, along-less, along-byte, along-sum, along-next, along-all}
 use Rattle.paint.proofs.paint_pixels.Statement.{statement}
 use Rattle.paint.proofs.paint_pixels.Tie as tie
 
@@ -21,14 +19,14 @@ paint-pixels-spec =
     (tie.spec
     Inv-loop
     μ-loop
-    (λ c. let s = c .before .before .before .before .before in omega (arith, mul-le-mul-right (s .args .row .bytes) (s .pre .order)))
+    (λ c. let e = may-give (c .before .before .before .before .before .pre) in omega arith)
     (λ c. (refl, search (along-start, lent-bytes)))
-    (λ c κs. let v = c .before .before .before .loop in (room-less (along-room (v .inv .1) .room) (omega arith), v .inv .0))
-    (λ c. search pixel-sum)
+    (λ c κs. search (along-less, add-one-le))
+    (λ c. search (along-sum, lt-add-one, add-one-le))
     (λ c. search along-byte)
     (λ c. omega arith)
     (λ c. omega arith)
-    (λ c. (omega arith, search pixel-next))
-    (λ c. search along-target)
-    (λ c. search along-map)
+    (λ c. (omega arith, search (along-next, lt-add-one, add-one-le)))
+    (λ c. search span-target)
+    (λ c. search span-map)
     (λ c. search along-all))

@@ -1,9 +1,8 @@
--- `paint::paint_uncovered` meets its contract: the invariant is what the contract says, of the pixels passed.
+-- `paint::paint_uncovered` meets its contract.
 use Prim.Native.Nat.{_-_}
 use borrow.Author.Needs.{zero≤}
 use native.Mathlib.Omega.{arith}
-use Rattle.paint.proofs.Spans.{lent-bytes}
-use Rattle.paint.proofs.Along.{Along, along-start, along-target, along-map, along-room, along-sum, along-next, along-all}
+use Rattle.paint.proofs.Along.{Along, lent-bytes, span-target, span-map, along-start, along-room, along-sum, along-next, along-all}
 use Rattle.paint.proofs.paint_uncovered.Statement.{statement}
 use Rattle.paint.proofs.paint_uncovered.Tie as tie
 
@@ -24,6 +23,6 @@ paint-uncovered-spec =
     (λ c. search along-sum)
     (λ c. omega arith)
     (λ c. search along-next)
-    (λ c. search along-target)
-    (λ c. search along-map)
+    (λ c. search span-target)
+    (λ c. search span-map)
     (λ c. search along-all))

@@ -1,7 +1,6 @@
 -- `paint::step_map` meets its contract.
-use Rattle.paint.proofs.Spans.{lent-bytes}
 use Rattle.paint.proofs.Rooms.{span-less, run-room}
-use Rattle.paint.proofs.Steps.{step-covered, open-run}
+use Rattle.paint.proofs.Steps.{lent-bytes, step-covered, open-run}
 use borrow.Author.Needs.{needs}
 use Rattle.paint.proofs.step_map.Statement.{statement}
 use Rattle.paint.proofs.step_map.Tie as tie

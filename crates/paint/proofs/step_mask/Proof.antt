@@ -1,7 +1,6 @@
 -- `paint::step_mask` meets its contract.
-use Rattle.paint.proofs.Spans.{lent-bytes}
-use Rattle.paint.proofs.Rooms.{span-less, columns-in, run-given}
-use Rattle.paint.proofs.Steps.{step-valid, step-invalid}
+use Rattle.paint.proofs.Rooms.{span-less, columns-in, run-give}
+use Rattle.paint.proofs.Steps.{lent-bytes, step-valid, step-invalid}
 use native.Mathlib.Omega.{arith}
 use borrow.Author.Needs.{needs}
 use Rattle.paint.proofs.step_mask.Statement.{statement}
@@ -19,7 +18,7 @@ step-mask-spec =
     (λ c κs. (omega arith, search columns-in))
     (λ c. search needs)
     (λ c. search needs)
-    (λ c κs. let o = c .before .before .before in run-given (o .before .before .before .before .before .pre .1) (o .run-end .ensures))
+    (λ c κs. search run-give)
     (λ c. search needs)
     (λ c. search needs)
     (λ c. search needs)

@@ -3,26 +3,8 @@ use Prim.Native.Nat.{_-_}
 use native.Mathlib.Omega.{arith}
 use borrow.Author.Needs.{needs}
 use Rattle.paint.proofs.Spans.{lent-bytes}
-use Rattle.turns.proofs.TileRows.{
-  Rows,
-  rows-target,
-  rows-map,
-  rows-none,
-  rows-all,
-  rows-beside,
-  rows-off,
-  row-sum,
-  row-above,
-  row-held,
-  row-start,
-  row-first,
-  source-row,
-  source-pixel,
-  source-byte,
-  row-room,
-  rows-more,
-  rows-sum,
-}
+use Rattle.turns.proofs.TileRows.{Rows, rows-target, rows-map, rows-none, rows-all, rows-beside, rows-off, rows-more, rows-sum}
+use Rattle.turns.proofs.TileRows.{row-first, source-pixel, source-byte, row-room}
 use Rattle.turns.proofs.paint_tile.Statement.{statement}
 use Rattle.turns.proofs.paint_tile.Tie as tie
 
@@ -40,9 +22,8 @@ loop-holds c =
     let m = e .before .before .before .before in
     let s = m .before .before .before in
     let b = s .before .before in
-    let g = b .good .1 .1 .1 .1 in
-    rows-none _ _ (b .pre) (λ k. s .slice-known2 .given k .fits) (m .meeting .ensures) (b .good .0 .0) (g .0 .0) (g .1 .1 .1 .0 .0)
-    (e .before .before .if1 .left) (e .if2 .left)
+    rows-none _ _ (b .pre) (λ k. s .slice-known2 .given k .fits) (m .meeting .ensures) (b .good .0 .0) (b .good .1 .1 .1 .1 .0 .0)
+    (b .good .1 .1 .1 .1 .1 .1 .1 .0 .0) (e .before .before .if1 .left) (e .if2 .left)
 
 paint-stretch-requires : tie.Need-paint-stretch-requires Inv-loop μ-loop
 paint-stretch-requires c κs =
@@ -79,13 +60,13 @@ paint-tile-spec =
     (λ c. omega arith)
     (λ c. omega arith)
     loop-holds
-    (λ c. search row-sum)
-    (λ c. search row-above)
-    (λ c κs. search row-held)
-    (λ c. search source-row)
+    (λ c. omega arith)
+    (λ c. omega arith)
+    (λ c κs. omega arith)
+    (λ c. let l = c .before .before .before .before in omega (arith, source-pixel (l .before .loop .inv) (l .loop-test .taken)))
     (λ c. let l = c .before .before .before .before in source-pixel (l .before .loop .inv) (l .loop-test .taken))
     (λ c. let l = c .before .before .before .before in source-byte (l .before .loop .inv) (l .loop-test .taken))
-    (λ c. search row-start)
+    (λ c. let l = c .before .before .before .before .before in omega (arith, row-first (l .before .loop .inv) (l .loop-test .taken)))
     (λ c. let l = c .before .before .before .before .before in row-first (l .before .loop .inv) (l .loop-test .taken))
     paint-stretch-requires
     add-given
