@@ -1,17 +1,36 @@
 // Judges the metadata segment, the attachment directory and the attachments. An entry lies in the slice d, an attachment in the slice s.
 use format::Verdict;
 ghost use mathlib.Core.Path.{_≡_};
-ghost use Prim.Native.Nat.{_+_, _*_, _<_, _≤_};
+ghost use Prim.Native.Nat.{_+_, _<_, _≤_, _^_};
 ghost use lib.ListN.{length, getD};
 ghost use lib.Dec.{eqb};
 ghost use Rattle.format.specs.Bytes.{anyBelow};
 ghost use Rattle.format.specs.Checks.{first, rowsBelow};
 ghost use Rattle.format.specs.Segments.{room, RoomIn};
 ghost use Rattle.format.specs.File.{metadataPosition, attachmentDirectoryPosition};
-ghost use Rattle.format.specs.Attachments.{metadataBad, metadataRows, attachmentDirectoryBad, attachmentEntry, attachmentEntryBad, attachmentBad, attachmentDataBad, attachmentEntryRows, attachmentsRows};
+ghost use Rattle.format.specs.Attachments.{xmlSize, xmlAttachmentSize, metadataBad, metadataRows, attachmentEntryCount, attachmentEntry};
+ghost use Rattle.format.specs.Attachments.{attachmentDirectoryBad};
+ghost use Rattle.format.specs.Attachments.{attachmentPosition, attachmentPart, attachmentDataSize, attachmentEntryBad, attachmentBad};
+ghost use Rattle.format.specs.Attachments.{attachmentDataBad, attachmentEntryRows, attachmentsRows};
 ghost use Rattle.segments.specs.Walk.{WalkTable};
 
 // ---- the metadata segment
+
+// XmlSize of the metadata segment at m.
+pub fn xml_size(s: &[u8], m: u64) -> u64
+    requires { ⌜ m + 40 ≤ length (now s) ⌝ }
+    ensures { λ r. ⌜ (r ≡ xmlSize (now (s .entry)) m) × (r < 2 ^ 32) ⌝ }
+{
+    fields::u32_at(s, m + 32)
+}
+
+// AttachmentSize of the metadata segment at m.
+pub fn xml_attachment_size(s: &[u8], m: u64) -> u64
+    requires { ⌜ m + 40 ≤ length (now s) ⌝ }
+    ensures { λ r. ⌜ (r ≡ xmlAttachmentSize (now (s .entry)) m) × (r < 2 ^ 32) ⌝ }
+{
+    fields::u32_at(s, m + 36)
+}
 
 // Refusal 10 of the metadata segment. Its sizes are read where its fixed part fits; where it does not, 256 plus both is over the room.
 fn metadata_bad(s: &[u8], m: u64) -> bool
@@ -22,11 +41,11 @@ fn metadata_bad(s: &[u8], m: u64) -> bool
     if room < 256 {
         return true;
     }
-    let xml = fields::u32_at(s, m + 32);
+    let xml = xml_size(s, m);
     if 2147483648 <= xml {
         return true;
     }
-    let attachment = fields::u32_at(s, m + 36);
+    let attachment = xml_attachment_size(s, m);
     if 2147483648 <= attachment {
         return true;
     }
@@ -42,7 +61,7 @@ pub fn judge_metadata(s: &[u8]) -> Verdict
     requires { ⌜ ((metadataPosition (now s) ≡ 0 → ⊥) → RoomIn (now s) (metadataPosition (now s))) ⌝ }
     ensures { λ r. ⌜ r ≡ first (metadataRows (now (s .entry))) ⌝ }
 {
-    let m = fields::u64_at(s, 92);
+    let m = segments::file::metadata_position(s);
     if m == 0 {
         return Verdict::Accepted;
     }
@@ -57,6 +76,22 @@ pub fn judge_metadata(s: &[u8]) -> Verdict
 
 // ---- the attachment directory
 
+// EntryCount of the attachment directory at t.
+pub fn attachment_entry_count(s: &[u8], t: u64) -> u64
+    requires { ⌜ t + 36 ≤ length (now s) ⌝ }
+    ensures { λ r. ⌜ (r ≡ attachmentEntryCount (now (s .entry)) t) × (r < 2 ^ 32) ⌝ }
+{
+    fields::u32_at(s, t + 32)
+}
+
+// The place of its entry k.
+pub fn attachment_entry(t: u64, k: u64) -> u64
+    requires { ⌜ attachmentEntry t k < 2 ^ 64 ⌝ }
+    ensures { λ r. ⌜ r ≡ attachmentEntry t k ⌝ }
+{
+    t + 288 + 128 * k
+}
+
 // Refusal 10 of the attachment directory.
 fn attachment_directory_bad(s: &[u8], t: u64) -> bool
     requires { ⌜ RoomIn (now s) t ⌝ }
@@ -66,7 +101,7 @@ fn attachment_directory_bad(s: &[u8], t: u64) -> bool
     if room < 256 {
         return true;
     }
-    let n = fields::u32_at(s, t + 32);
+    let n = attachment_entry_count(s, t);
     if 2147483648 <= n {
         return true;
     }
@@ -77,6 +112,32 @@ fn attachment_directory_bad(s: &[u8], t: u64) -> bool
         return true;
     }
     false
+}
+
+// ---- an entry A1, and its attachment
+
+// FilePosition of the entry at e: where its attachment stands.
+pub fn attachment_position(s: &[u8], e: u64) -> u64
+    requires { ⌜ e + 128 ≤ length (now s) ⌝ }
+    ensures { λ r. ⌜ r ≡ attachmentPosition (now (s .entry)) e ⌝ }
+{
+    fields::u64_at(s, e + 12)
+}
+
+// FilePart of the entry at e.
+fn attachment_part(s: &[u8], e: u64) -> u64
+    requires { ⌜ e + 128 ≤ length (now s) ⌝ }
+    ensures { λ r. ⌜ (r ≡ attachmentPart (now (s .entry)) e) × (r < 2 ^ 32) ⌝ }
+{
+    fields::u32_at(s, e + 20)
+}
+
+// DataSize of the attachment at q.
+pub fn attachment_data_size(s: &[u8], q: u64) -> u64
+    requires { ⌜ q + 36 ≤ length (now s) ⌝ }
+    ensures { λ r. ⌜ (r ≡ attachmentDataSize (now (s .entry)) q) × (r < 2 ^ 32) ⌝ }
+{
+    fields::u32_at(s, q + 32)
 }
 
 // Whether one of the 80 bytes from p on is zero.
@@ -127,7 +188,7 @@ fn attachment_data_bad(s: &[u8], q: u64) -> bool
     requires { ⌜ RoomIn (now s) q × (256 ≤ room (now s) q) ⌝ }
     ensures { λ r. ⌜ r ≡ attachmentDataBad (now (s .entry)) q ⌝ }
 {
-    let n = fields::u32_at(s, q + 32);
+    let n = attachment_data_size(s, q);
     if 2147483648 <= n {
         return true;
     }
@@ -149,13 +210,13 @@ fn judge_attachment_entry(s: &[u8], table: &[u64; 8192], count: usize, e: u64) -
             place: e,
         };
     }
-    if fields::u32_at(s, e + 20) != 0 {
+    if attachment_part(s, e) != 0 {
         return Verdict::Refused {
             number: 7,
             place: e,
         };
     }
-    let q = fields::u64_at(s, e + 12);
+    let q = attachment_position(s, e);
     if !segments::walked_as(s, table, count, q, b"ZISRAWATTACH\0\0\0\0") {
         return Verdict::Refused {
             number: 14,
@@ -180,12 +241,12 @@ fn judge_attachment_entry(s: &[u8], table: &[u64; 8192], count: usize, e: u64) -
 // The n entries of the attachment directory at t, in order.
 fn judge_attachment_entries(s: &[u8], table: &[u64; 8192], count: usize, t: u64, n: u64) -> Verdict
     requires { ⌜ WalkTable (now s) (now table) count ⌝ }
-    requires { ⌜ t + 288 + 128 * n ≤ length (now s) ⌝ }
+    requires { ⌜ attachmentEntry t n ≤ length (now s) ⌝ }
     ensures { λ r. ⌜ r ≡ first (rowsBelow n (λ k. attachmentEntryRows (now (s .entry)) (attachmentEntry t k))) ⌝ }
 {
     let mut k: u64 = 0;
     while k < n {
-        let v = judge_attachment_entry(s, table, count, t + 288 + 128 * k);
+        let v = judge_attachment_entry(s, table, count, attachment_entry(t, k));
         match v {
             Verdict::Refused { number, place } => {
                 return Verdict::Refused { number, place };
@@ -205,7 +266,7 @@ pub fn judge_attachments(s: &[u8], table: &[u64; 8192], count: usize) -> Verdict
     requires { ⌜ ((attachmentDirectoryPosition (now s) ≡ 0 → ⊥) → RoomIn (now s) (attachmentDirectoryPosition (now s))) ⌝ }
     ensures { λ r. ⌜ r ≡ first (attachmentsRows (now (s .entry))) ⌝ }
 {
-    let t = fields::u64_at(s, 104);
+    let t = segments::file::attachment_directory_position(s);
     if t == 0 {
         return Verdict::Accepted;
     }
@@ -215,5 +276,5 @@ pub fn judge_attachments(s: &[u8], table: &[u64; 8192], count: usize) -> Verdict
             place: t,
         };
     }
-    judge_attachment_entries(s, table, count, t, fields::u32_at(s, t + 32))
+    judge_attachment_entries(s, table, count, t, attachment_entry_count(s, t))
 }

@@ -10,12 +10,14 @@ use lib.Dec.{eqb}
 use borrow.Author.Tests.{eqb-true, eqb-false}
 use Rattle.format.specs.Checks.{Check, first}
 use Rattle.format.specs.Segments.{walked}
-use Rattle.format.specs.Directory.{attachmentRows}
+use Rattle.format.specs.Scan.{Scan, blockFile}
+use Rattle.format.specs.Entry.{filePosition}
+use Rattle.format.specs.Directory.{tileRows, attachmentRows}
 use Rattle.format.specs.declared.Verdict.{Verdict}
 use Rattle.format.specs.declared.Verdict.the-variants.{Accepted, Refused}
 use Rattle.subblocks.proofs.OwnCopy.{own-rows}
 use Rattle.directory.proofs.Stages.{then-stop, then-next}
-use Rattle.directory.specs.Marks.{ChunksAccepted, Marked, ChunksKnown, AnsweredMarked, ChunksAnswered}
+use Rattle.directory.specs.Marks.{blockRows, bodyRows, ChunksAccepted, Marked, ChunksKnown, AnsweredMarked, ChunksAnswered}
 
 -- ---- no flag is set
 
@@ -29,20 +31,26 @@ none-marked bs = record { size = length-replicate {A = ℕ} 8192 0; right = λ k
 
 -- ---- rows judged after others, with flags that are right
 
-pub answered-stop : (bs flags : List ℕ) (v : Verdict) (a b : List Check) (m p : ℕ) → Marked bs flags → v ≡ first a → v ≡ Refused m p → AnsweredMarked bs (a ++ b) flags (Refused m p)
-answered-stop bs flags v a b m p k e h = record { verdict-is = then-stop v a b m p e h; marked = k }
+module _ (bs flags : List ℕ) (v : Verdict) (a b : List Check) (e : v ≡ first a) where
+  pub answered-stop : (m p : ℕ) → Marked bs flags → v ≡ Refused m p → AnsweredMarked bs (a ++ b) flags (Refused m p)
+  answered-stop m p k h = record { verdict-is = then-stop v a b m p e h; marked = k }
 
-pub answered-next : (bs flags : List ℕ) (v w : Verdict) (a b : List Check) → v ≡ first a → v ≡ Accepted → AnsweredMarked bs b flags w → AnsweredMarked bs (a ++ b) flags w
-answered-next bs flags v w a b e h k = record { verdict-is = then-next v w a b e h (k .verdict-is); marked = k .marked }
+  pub answered-next : (w : Verdict) → v ≡ Accepted → AnsweredMarked bs b flags w → AnsweredMarked bs (a ++ b) flags w
+  answered-next w h k = record { verdict-is = then-next v w a b e h (k .verdict-is); marked = k .marked }
 
--- ---- the chunks of the sub-block at q
+-- the rows behind an entry's head: those of the tile, and those of its sub-block, which is at q
+pub body-next : (sc : Scan) (flags : List ℕ) (e q : ℕ) (v w : Verdict) → v ≡ first (tileRows sc e) → v ≡ Accepted → q ≡ filePosition (sc .file) e
+    → AnsweredMarked (blockFile sc e) (blockRows (sc .file) e (blockFile sc e) q) flags w → AnsweredMarked (blockFile sc e) (bodyRows sc e) flags w
+body-next sc flags e q v w j a f k = rw (← f) (answered-next (blockFile sc e) flags v (tileRows sc e) (blockRows (sc .file) e (blockFile sc e) q) j w a k)
 
-module _ (bs flags : List ℕ) (k e q : ℕ) (f : ChunksKnown bs flags k e q) where
-  own : attachmentRows bs e bs q ≡ attachmentRows bs (q + 48) bs q
-  own = own-rows bs e bs q (f .filled .agreed .block)
+-- ---- the chunks of the sub-block at q of the file bs, its entry at e of the file ds
+
+module _ (ds : List ℕ) (e : ℕ) (bs : List ℕ) (q : ℕ) (flags : List ℕ) (k : ℕ) (f : ChunksKnown ds e bs q flags k) where
+  own : attachmentRows ds e bs q ≡ attachmentRows bs (q + 48) bs q
+  own = own-rows ds e bs q (f .filled .agreed .block)
 
   -- its flag is set: they were accepted for an entry before this one
-  pub judged-before : (getD flags k 0 ≡ 0 → ⊥) → ChunksAnswered bs (attachmentRows bs e bs q) flags k Accepted
+  pub judged-before : (getD flags k 0 ≡ 0 → ⊥) → ChunksAnswered bs (attachmentRows ds e bs q) flags k Accepted
   unfolding ChunksAccepted
   judged-before h = record {
     answered = record { verdict-is = rw own (sym (rw (f .stands .at) at (f .marked .right k h))); marked = f .marked };
@@ -50,22 +58,28 @@ module _ (bs flags : List ℕ) (k e q : ℕ) (f : ChunksKnown bs flags k e q) wh
   }
 
   -- they are refused: no flag is set
-  pub judged-refused : (m p : ℕ) → Refused m p ≡ first (attachmentRows bs e bs q) → ChunksAnswered bs (attachmentRows bs e bs q) flags k (Refused m p)
-  judged-refused m p j = record { answered = record { verdict-is = j; marked = f .marked }; flagged = λ a. let z : _≡_ {A = ℕ} 0 1 = cc in absurd (omega arith) }
+  pub judged-refused : (v : Verdict) (m p : ℕ) → v ≡ first (attachmentRows ds e bs q) → v ≡ Refused m p
+      → ChunksAnswered bs (attachmentRows ds e bs q) flags k (Refused m p)
+  judged-refused v m p j h = record {
+    answered = record { verdict-is = sym h ∙ j; marked = f .marked };
+    flagged = λ a. let z : _≡_ {A = ℕ} 0 1 = cc in absurd (omega arith);
+  }
 
   -- they are accepted: the flag is set
-  module _ (v : Verdict) (j : v ≡ first (attachmentRows bs e bs q)) (a : v ≡ Accepted) where
+  module _ (v : Verdict) (j : v ≡ first (attachmentRows ds e bs q)) (a : v ≡ Accepted) where
     accepted : ChunksAccepted bs (getD (walked bs) k 0)
     unfolding ChunksAccepted
     accepted = rw (f .stands .at, ← own) (sym j ∙ a)
 
-    pub judged-now : ChunksAnswered bs (attachmentRows bs e bs q) (set flags k 1) k Accepted
+    pub judged-now : ChunksAnswered bs (attachmentRows ds e bs q) (set flags k 1) k Accepted
     judged-now = record {
       answered = record {
         verdict-is = sym a ∙ j;
         marked = record { size = length-set flags k 1 ∙ f .marked .size; right = λ i h. go i (eqb i k) refl h };
       };
-      flagged = λ _ z. let one : getD (set flags k 1) k 0 ≡ 1 = getD-set-same flags k 1 0 (omega (arith, f .stands .below, f .marked .size)) in omega arith;
+      flagged = λ _ z.
+          let one : getD (set flags k 1) k 0 ≡ 1 = getD-set-same flags k 1 0 (omega (arith, f .stands .below, f .marked .size)) in
+          omega arith;
     }
       where
         go : (i : ℕ) (b : Bool) → eqb i k ≡ b → (getD (set flags k 1) i 0 ≡ 0 → ⊥) → ChunksAccepted bs (getD (walked bs) i 0)

@@ -1,14 +1,25 @@
--- The flags by which the chunks of a sub-block are judged once, however many entries name it, and what judging an entry answers with them.
+-- The rows of an entry in the order of judging it, the flags by which the chunks of a sub-block are judged once, however many entries name it, and what judging
+-- an entry answers with them. The flags are those of the file that holds the sub-blocks.
 use Prim.Native.Nat.{ℕ, _+_, _<_}
 use mathlib.Core.Path.{_≡_}
-use mathlib.Core.List.{List}
+use mathlib.Core.List.{List, _++_}
 use lib.ListN.{length, getD}
 use Rattle.format.specs.Checks.{Check, first}
 use Rattle.format.specs.Segments.{walked}
-use Rattle.format.specs.Directory.{attachmentRows}
+use Rattle.format.specs.Scan.{Scan, blockFile}
+use Rattle.format.specs.Entry.{filePosition}
+use Rattle.format.specs.Directory.{tileRows, subBlockRows, attachmentRows}
 use Rattle.format.specs.declared.Verdict.{Verdict}
 use Rattle.format.specs.declared.Verdict.the-variants.{Accepted}
 use Rattle.subblocks.specs.Judged.{Placed, Filled}
+
+-- the rows of the sub-block at q of the file bs, its entry at e of the file ds, and of its chunks
+abbrev pub blockRows : List ℕ → ℕ → List ℕ → ℕ → List Check
+blockRows ds e bs q = subBlockRows ds e bs q ++ attachmentRows ds e bs q
+
+-- the rows of an entry behind those of its head
+abbrev pub bodyRows : Scan → ℕ → List Check
+bodyRows sc e = tileRows sc e ++ blockRows (sc .file) e (blockFile sc e) (filePosition (sc .file) e)
 
 -- the chunks of the sub-block at q are accepted, by its own copy of the entry, at q + 48
 unfoldable pub ChunksAccepted : List ℕ → ℕ → Type 0
@@ -24,15 +35,15 @@ pub record Stands (bs : List ℕ) (k q : ℕ) : Type 0 where
   pub below : k < 8192
   pub at : getD (walked bs) k 0 ≡ q
 
--- what judging the sub-block of the entry at e may rest on
-pub record BlockKnown (bs flags : List ℕ) (k e q : ℕ) : Type 0 where
-  pub placed : Placed bs e bs q
+-- what judging the sub-block at q of the file bs, its entry at e of the file ds, may rest on
+pub record BlockKnown (ds : List ℕ) (e : ℕ) (bs : List ℕ) (q : ℕ) (flags : List ℕ) (k : ℕ) : Type 0 where
+  pub placed : Placed ds e bs q
   pub stands : Stands bs k q
   pub marked : Marked bs flags
 
 -- the same for its chunks
-pub record ChunksKnown (bs flags : List ℕ) (k e q : ℕ) : Type 0 where
-  pub filled : Filled bs e bs q
+pub record ChunksKnown (ds : List ℕ) (e : ℕ) (bs : List ℕ) (q : ℕ) (flags : List ℕ) (k : ℕ) : Type 0 where
+  pub filled : Filled ds e bs q
   pub stands : Stands bs k q
   pub marked : Marked bs flags
 

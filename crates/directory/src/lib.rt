@@ -1,19 +1,38 @@
-// Judges the sub-block directory: its own refusal 10, and each entry with its sub-block in order.
+// Judges the sub-block directory: its own refusal 10, and each entry with its sub-block in order. Of a sub-block, the entry lies in the slice d and the
+// sub-block in the slice s; which file of a scan that is, the function that judges the entry's body says.
 use format::Verdict;
 ghost use mathlib.Core.Path.{_≡_};
-ghost use mathlib.Core.List.{_++_};
-ghost use Prim.Native.Nat.{_+_, _≤_};
+ghost use Prim.Native.Nat.{_+_, _<_, _≤_, _^_};
 ghost use lib.ListN.{length};
-ghost use Rattle.format.specs.Scan.{scanOf};
+ghost use Rattle.format.specs.Scan.{scanOf, blockFile};
 ghost use Rattle.format.specs.Checks.{first, rowsBelow};
 ghost use Rattle.format.specs.Names.{nameSubBlock};
 ghost use Rattle.format.specs.Segments.{RoomIn, walkedAs};
 ghost use Rattle.format.specs.File.{directoryPosition};
 ghost use Rattle.format.specs.Entry.{nextEntry, dimensionCount, filePosition};
-ghost use Rattle.format.specs.Directory.{roomEnd, entryPlace, directoryBad, headRows, tileRows, subBlockRows, attachmentRows, entryRows, directoryRows};
+ghost use Rattle.format.specs.Directory.{entryCount, roomEnd, entryPlace, directoryBad, headRows, tileRows, subBlockRows, attachmentRows, entryRows};
+ghost use Rattle.format.specs.Directory.{directoryRows};
 ghost use Rattle.segments.specs.Walk.{WalkTable};
 ghost use Rattle.subblocks.specs.Judged.{Placed};
-ghost use Rattle.directory.specs.Marks.{Marked, BlockKnown, ChunksKnown, AnsweredMarked, ChunksAnswered};
+ghost use Rattle.directory.specs.Marks.{blockRows, bodyRows, Marked, BlockKnown, ChunksKnown, AnsweredMarked, ChunksAnswered};
+
+// ---- the fields of the directory
+
+// EntryCount of the directory at d.
+pub fn entry_count(s: &[u8], d: u64) -> u64
+    requires { ⌜ d + 36 ≤ length (now s) ⌝ }
+    ensures { λ r. ⌜ (r ≡ entryCount (now (s .entry)) d) × (r < 2 ^ 32) ⌝ }
+{
+    fields::u32_at(s, d + 32)
+}
+
+// The place of entry 0 of the directory that the file segment names.
+pub fn first_entry(s: &[u8]) -> u64
+    requires { ⌜ (112 ≤ length (now s)) × (entryPlace (now s) 0 ≤ length (now s)) ⌝ }
+    ensures { λ r. ⌜ r ≡ entryPlace (now (s .entry)) 0 ⌝ }
+{
+    segments::file::directory_position(s) + 160
+}
 
 // The place behind the room of the segment at d.
 fn room_end(s: &[u8], d: u64) -> u64
@@ -23,6 +42,8 @@ fn room_end(s: &[u8], d: u64) -> u64
     d + 32 + segments::room_at(s, d)
 }
 
+// ---- refusals 10 to 18
+
 // Refusal 10 of the directory.
 fn directory_bad(s: &[u8], d: u64) -> bool
     requires { ⌜ RoomIn (now s) d ⌝ }
@@ -31,7 +52,7 @@ fn directory_bad(s: &[u8], d: u64) -> bool
     if segments::room_at(s, d) < 128 {
         return true;
     }
-    let n = fields::u32_at(s, d + 32);
+    let n = entry_count(s, d);
     if 2147483648 <= n {
         return true;
     }
@@ -60,7 +81,7 @@ fn judge_head(s: &[u8], d: u64, e: u64) -> Verdict
             place: e,
         };
     }
-    if end < e + 32 + 20 * entries::dimension_count(s, e) {
+    if end < entries::next_entry(s, e) {
         return Verdict::Refused {
             number: 10,
             place: d,
@@ -72,7 +93,7 @@ fn judge_head(s: &[u8], d: u64, e: u64) -> Verdict
 // The rest of the entry itself: 11, 12, 13, 7, 14. A search in the table has told whether it names a sub-block.
 fn judge_tile(s: &[u8], e: u64, named: bool) -> Verdict
     requires { ⌜ (dimensionCount (now s) e ≤ 16) × (nextEntry (now s) e ≤ length (now s)) ⌝ }
-    requires { ⌜ named ≡ walkedAs (now s) (filePosition (now s) e) nameSubBlock ⌝ }
+    requires { ⌜ named ≡ walkedAs (blockFile (scanOf (now s)) e) (filePosition (now s) e) nameSubBlock ⌝ }
     ensures { λ r. ⌜ r ≡ first (tileRows (scanOf (now (s .entry))) e) ⌝ }
 {
     if entries::dimensions_bad(s, e) {
@@ -81,19 +102,19 @@ fn judge_tile(s: &[u8], e: u64, named: bool) -> Verdict
             place: e,
         };
     }
-    if entries::pixel_bytes(fields::u32_at(s, e + 2)) == 0 {
+    if entries::pixel_bytes(entries::pixel_type(s, e)) == 0 {
         return Verdict::Refused {
             number: 12,
             place: e,
         };
     }
-    if fields::u32_at(s, e + 18) != 0 {
+    if entries::compression(s, e) != 0 {
         return Verdict::Refused {
             number: 13,
             place: e,
         };
     }
-    if fields::u32_at(s, e + 14) != 0 {
+    if entries::file_part(s, e) != 0 {
         return Verdict::Refused {
             number: 7,
             place: e,
@@ -108,18 +129,18 @@ fn judge_tile(s: &[u8], e: u64, named: bool) -> Verdict
     Verdict::Accepted
 }
 
-// The sub-block at q of the entry at e: 15, 16.
-fn judge_sub_block(s: &[u8], e: u64, q: u64) -> Verdict
-    requires { ⌜ Placed (now s) e (now s) q ⌝ }
-    ensures { λ r. ⌜ r ≡ first (subBlockRows (now (s .entry)) e (now (s .entry)) q) ⌝ }
+// The sub-block at q of the file s, its entry at e of the file d: 15, 16.
+fn judge_sub_block(d: &[u8], e: u64, s: &[u8], q: u64) -> Verdict
+    requires { ⌜ Placed (now d) e (now s) q ⌝ }
+    ensures { λ r. ⌜ r ≡ first (subBlockRows (now (d .entry)) e (now (s .entry)) q) ⌝ }
 {
-    if subblocks::sub_block_bad(s, e, s, q) {
+    if subblocks::sub_block_bad(d, e, s, q) {
         return Verdict::Refused {
             number: 15,
             place: q,
         };
     }
-    if subblocks::contents_bad(s, e, s, q) {
+    if subblocks::contents_bad(d, e, s, q) {
         return Verdict::Refused {
             number: 16,
             place: q,
@@ -128,15 +149,22 @@ fn judge_sub_block(s: &[u8], e: u64, q: u64) -> Verdict
     Verdict::Accepted
 }
 
-// The chunks of the sub-block at q, walked segment k: 17, 18. They are judged once: for every entry that agrees with the sub-block they are the same.
-fn judge_chunks_once(s: &[u8], judged: &mut [u8; 8192], k: usize, e: u64, q: u64) -> Verdict
-    requires { ⌜ ChunksKnown (now s) (now judged) k e q ⌝ }
-    ensures { λ r. ⌜ ChunksAnswered (now (s .entry)) (attachmentRows (now (s .entry)) e (now (s .entry)) q) (now (judged .exit)) k r ⌝ }
+// The chunks of that sub-block, walked segment k of its file: 17, 18. They are judged once: for every entry that agrees with the sub-block they are the same.
+fn judge_chunks_once(
+    d: &[u8],
+    e: u64,
+    s: &[u8],
+    q: u64,
+    judged: &mut [u8; 8192],
+    k: usize,
+) -> Verdict
+    requires { ⌜ ChunksKnown (now d) e (now s) q (now judged) k ⌝ }
+    ensures { λ r. ⌜ ChunksAnswered (now (s .entry)) (attachmentRows (now (d .entry)) e (now (s .entry)) q) (now (judged .exit)) k r ⌝ }
 {
     if judged[k] != 0 {
         return Verdict::Accepted;
     }
-    let v = subblocks::judge_attachment(s, e, s, q);
+    let v = subblocks::judge_attachment(d, e, s, q);
     match v {
         Verdict::Refused { number, place } => Verdict::Refused { number, place },
         Verdict::Accepted => {
@@ -147,14 +175,14 @@ fn judge_chunks_once(s: &[u8], judged: &mut [u8; 8192], k: usize, e: u64, q: u64
 }
 
 // The sub-block and its attachment's chunks: 15, 16, 17, 18.
-fn judge_block(s: &[u8], judged: &mut [u8; 8192], k: usize, e: u64, q: u64) -> Verdict
-    requires { ⌜ BlockKnown (now s) (now judged) k e q ⌝ }
-    ensures { λ r. ⌜ AnsweredMarked (now (s .entry)) (subBlockRows (now (s .entry)) e (now (s .entry)) q ++ attachmentRows (now (s .entry)) e (now (s .entry)) q) (now (judged .exit)) r ⌝ }
+fn judge_block(d: &[u8], e: u64, s: &[u8], q: u64, judged: &mut [u8; 8192], k: usize) -> Verdict
+    requires { ⌜ BlockKnown (now d) e (now s) q (now judged) k ⌝ }
+    ensures { λ r. ⌜ AnsweredMarked (now (s .entry)) (blockRows (now (d .entry)) e (now (s .entry)) q) (now (judged .exit)) r ⌝ }
 {
-    let v = judge_sub_block(s, e, q);
+    let v = judge_sub_block(d, e, s, q);
     match v {
         Verdict::Refused { number, place } => Verdict::Refused { number, place },
-        Verdict::Accepted => judge_chunks_once(s, judged, k, e, q),
+        Verdict::Accepted => judge_chunks_once(d, e, s, q, judged, k),
     }
 }
 
@@ -169,14 +197,14 @@ fn judge_body(
     requires { ⌜ WalkTable (now s) (now table) count ⌝ }
     requires { ⌜ Marked (now s) (now judged) ⌝ }
     requires { ⌜ (dimensionCount (now s) e ≤ 16) × (nextEntry (now s) e ≤ length (now s)) ⌝ }
-    ensures { λ r. ⌜ AnsweredMarked (now (s .entry)) (tileRows (scanOf (now (s .entry))) e ++ (subBlockRows (now (s .entry)) e (now (s .entry)) (filePosition (now (s .entry)) e) ++ attachmentRows (now (s .entry)) e (now (s .entry)) (filePosition (now (s .entry)) e))) (now (judged .exit)) r ⌝ }
+    ensures { λ r. ⌜ AnsweredMarked (now (s .entry)) (bodyRows (scanOf (now (s .entry))) e) (now (judged .exit)) r ⌝ }
 {
-    let q = fields::u64_at(s, e + 6);
+    let q = entries::file_position(s, e);
     let k = segments::index_as(s, table, count, q, b"ZISRAWSUBBLOCK\0\0");
     let v = judge_tile(s, e, k < count);
     match v {
         Verdict::Refused { number, place } => Verdict::Refused { number, place },
-        Verdict::Accepted => judge_block(s, judged, k, e, q),
+        Verdict::Accepted => judge_block(s, e, s, q, judged, k),
     }
 }
 
@@ -206,11 +234,11 @@ fn judge_entry(
 fn judge_entries(s: &[u8], table: &[u64; 8192], count: usize, d: u64, n: u64) -> Verdict
     requires { ⌜ WalkTable (now s) (now table) count ⌝ }
     requires { ⌜ RoomIn (now s) d ⌝ }
-    requires { ⌜ (d ≡ directoryPosition (now s)) × (d + 160 ≤ roomEnd (now s) d) ⌝ }
+    requires { ⌜ (112 ≤ length (now s)) × (entryPlace (now s) 0 ≤ roomEnd (now s) d) ⌝ }
     ensures { λ r. ⌜ r ≡ first (rowsBelow n (λ k. entryRows (scanOf (now (s .entry))) d (entryPlace (now (s .entry)) k))) ⌝ }
 {
     let mut judged = [0u8; 8192];
-    let mut e = d + 160;
+    let mut e = first_entry(s);
     let mut k: u64 = 0;
     while k < n {
         let v = judge_entry(s, table, count, &mut judged, d, e);
@@ -219,7 +247,7 @@ fn judge_entries(s: &[u8], table: &[u64; 8192], count: usize, d: u64, n: u64) ->
                 return Verdict::Refused { number, place };
             }
             Verdict::Accepted => {
-                e = e + 32 + 20 * entries::dimension_count(s, e);
+                e = entries::next_entry(s, e);
                 k += 1;
             }
         }
@@ -233,12 +261,12 @@ pub fn judge_directory(s: &[u8], table: &[u64; 8192], count: usize) -> Verdict
     requires { ⌜ (112 ≤ length (now s)) × RoomIn (now s) (directoryPosition (now s)) ⌝ }
     ensures { λ r. ⌜ r ≡ first (directoryRows (scanOf (now (s .entry)))) ⌝ }
 {
-    let d = fields::u64_at(s, 84);
+    let d = segments::file::directory_position(s);
     if directory_bad(s, d) {
         return Verdict::Refused {
             number: 10,
             place: d,
         };
     }
-    judge_entries(s, table, count, d, fields::u32_at(s, d + 32))
+    judge_entries(s, table, count, d, entry_count(s, d))
 }

@@ -1,9 +1,10 @@
 -- What follows for an entry that is not refused: its mark and number of dimensions, its X and Y, and the bounds of a dimension. Assumes nothing.
 use Prim.Native.Nat.{ℕ, suc, _+_, _-_, _^_, _≤_, _<_}
-use mathlib.Core.Path.{_≡_, refl, sym}
+use mathlib.Core.Path.{_≡_, refl, sym, _∙_}
 use mathlib.Core.List.{List, [], _∷_}
 use mathlib.Core.Bool.{Bool, true, false, cond, not, true≢false}
 use native.Mathlib.Omega.{arith}
+use lib.ListN.{length}
 use lib.Dec.{eqb, leb, ltb}
 use lib.IntN.{pos, negsuc, _+ℤ_, _-ℤ_}
 use lib.Signed.{mag}
@@ -150,6 +151,11 @@ letter-placed bs e x h =
     let l = least-is (dimensionCount bs e) (hasLetter bs e x) h in
     record { index = l .below; within = dimension-within bs e _ (l .below); letter-is = eqb-true _ x (l .holds) }
 
+-- r says whether the entry has the letter x, whose dimension was found at d
+pub letter-in : (bs : List ℕ) (e x d : ℕ) (r : Bool) → nextEntry bs e ≤ length bs → r ≡ anyBelow (dimensionCount bs e) (hasLetter bs e x) → r ≡ true
+    → d ≡ letterPlace bs e x → d + 20 ≤ length bs
+letter-in bs e x d r n j h i = omega (arith, letter-placed bs e x (sym j ∙ h) .within)
+
 -- the stored size a and Size b of the dimension of the letter l, which were read at d
 module _ (bs : List ℕ) (e l d a b : ℕ) (i : d ≡ letterPlace bs e l) (j : a ≡ stored bs d) (k : b ≡ size bs d) where
   pub size-other : (a ≡ b → ⊥) → eqb (stored bs (letterPlace bs e l)) (size bs (letterPlace bs e l)) ≡ false
@@ -211,6 +217,14 @@ dimensions-ok bs e h =
 
     differ : (j k : ℕ) → j < dimensionCount bs e → k < j → letter bs (dimensionPlace e k) ≡ letter bs (dimensionPlace e j) → ⊥
     differ j k l b f = apart bs e j k (any-none (dimensionCount bs e) j (repeats bs e) (none _ h 1) l) b f
+
+-- X and Y, whose dimensions were found at d, lie in the file where the entry does
+module _ (bs : List ℕ) (e d : ℕ) (n : nextEntry bs e ≤ length bs) (h : dimensionsBad bs e ≡ false) where
+  pub x-in : d ≡ letterPlace bs e 88 → d + 20 ≤ length bs
+  x-in i = omega (arith, dimensions-ok bs e h .x .within)
+
+  pub y-in : d ≡ letterPlace bs e 89 → d + 20 ≤ length bs
+  y-in i = omega (arith, dimensions-ok bs e h .y .within)
 
 -- ---- pixel types
 

@@ -9,7 +9,8 @@ ghost use lib.ListN.{length};
 ghost use Rattle.format.specs.Bytes.{anyBelow, biased};
 ghost use Rattle.format.specs.Entry.{pixelType, filePosition, entryPart, compression, pyramidByte, dimensionCount, dimensionPlace, nextEntry};
 ghost use Rattle.format.specs.Entry.{letter, start, size, coordinateBits, storedField, stored};
-ghost use Rattle.format.specs.Entry.{headBad, letterBad, tooFar, isPlane, sizeBad, dimensionBad, hasLetter, repeats, closesPlane, dimensionsBad, letterIndex, letterPlace, isPyramid, pixelBytes};
+ghost use Rattle.format.specs.Entry.{headBad, letterBad, tooFar, isPlane, sizeBad, dimensionBad, hasLetter, repeats, closesPlane, dimensionsBad};
+ghost use Rattle.format.specs.Entry.{letterIndex, letterPlace, isPyramid, pixelBytes};
 ghost use Rattle.format.specs.Records.{extentAt, mIndexOf, dimensionAt};
 
 // ---- the fields of the entry at e
@@ -72,7 +73,7 @@ pub fn dimension_place(e: u64, k: u64) -> u64
 
 // The place behind the entry.
 pub fn next_entry(s: &[u8], e: u64) -> u64
-    requires { ⌜ (e + 32 ≤ length (now s)) × (nextEntry (now s) e < 2 ^ 64) ⌝ }
+    requires { ⌜ e + 32 ≤ length (now s) ⌝ }
     ensures { λ r. ⌜ r ≡ nextEntry (now (s .entry)) e ⌝ }
 {
     dimension_place(e, dimension_count(s, e))
@@ -436,6 +437,14 @@ pub fn extent_at(s: &[u8], d: u64) -> Extent
         size,
         stored,
     }
+}
+
+// The dimension of the letter x, which the entry has, as X or Y.
+pub fn letter_extent(s: &[u8], e: u64, x: u64) -> Extent
+    requires { ⌜ (nextEntry (now s) e ≤ length (now s)) × (letterPlace (now s) e x + 20 ≤ length (now s)) ⌝ }
+    ensures { λ r. ⌜ r ≡ extentAt (now (s .entry)) (letterPlace (now (s .entry)) e x) ⌝ }
+{
+    extent_at(s, letter_place(s, e, x))
 }
 
 // The Start of M (77), if the entry has one.

@@ -70,7 +70,8 @@ module _ (s t : List ℕ) (hs : (i : ℕ) → getD s i 0 < 256) (ht : (i : ℕ) 
   unfolding u32At
   u32-bytes a b e = go (digits _ _ _ _ _ _ _ _ (hs a) (hs (a + 1)) (hs (a + 2)) (hs (a + 3)) (ht b) (ht (b + 1)) (ht (b + 2)) (ht (b + 3)) e)
     where
-      go : (getD s a 0 ≡ getD t b 0) × (getD s (a + 1) 0 ≡ getD t (b + 1) 0) × (getD s (a + 2) 0 ≡ getD t (b + 2) 0) × (getD s (a + 3) 0 ≡ getD t (b + 3) 0) → Same 4 s a t b
+      go : (getD s a 0 ≡ getD t b 0) × (getD s (a + 1) 0 ≡ getD t (b + 1) 0) × (getD s (a + 2) 0 ≡ getD t (b + 2) 0) × (getD s (a + 3) 0 ≡ getD t (b + 3) 0)
+          → Same 4 s a t b
       go d zero h = rw (add-zero a, add-zero b) (d .0)
       go d (suc zero) h = d .1
       go d (suc (suc zero)) h = d .2
@@ -103,7 +104,8 @@ module _ (s : List ℕ) (p : ℕ) (name : List ℕ) (size : length name ≡ 16) 
   pub high-differs : (u64At s (p + 8) ≡ u64At name 8 → ⊥) → false ≡ sameAt s p name
   high-differs h = unlike (λ f. h (same-u64 s (p + 8) name 8 (back 8 8 s p name 0 f)))
 
-  pub words-agree : ((i : ℕ) → getD s i 0 < 256) → ((i : ℕ) → getD name i 0 < 256) → u64At s p ≡ u64At name 0 → u64At s (p + 8) ≡ u64At name 8 → true ≡ sameAt s p name
+  pub words-agree : ((i : ℕ) → getD s i 0 < 256) → ((i : ℕ) → getD name i 0 < 256)
+      → u64At s p ≡ u64At name 0 → u64At s (p + 8) ≡ u64At name 8 → true ≡ sameAt s p name
   unfolding sameAt
   words-agree hs hn e f =
       let all = join 8 8 s p name 0 (u64-bytes s name hs hn p 0 e) (u64-bytes s name hs hn (p + 8) 8 f) in

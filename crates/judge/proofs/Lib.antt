@@ -1,3 +1,4 @@
--- Laws of a file whose file segment is accepted.
+-- Laws of a file whose file segment is accepted, of an accepted file, and of a loop over its entries.
 pub mod LocatedLaws
 pub mod AcceptedFile
+pub mod EntryLoop

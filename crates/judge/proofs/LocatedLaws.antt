@@ -1,6 +1,6 @@
 -- Once the file segment is accepted, the rooms of the segments that it names lie in the file. Assumes nothing.
 use Prim.Native.Nat.{ℕ}
-use mathlib.Core.Path.{_≡_}
+use mathlib.Core.Path.{_≡_, sym, _∙_}
 use mathlib.Core.List.{List}
 use mathlib.Core.Bool.{false}
 use borrow.Author.Tests.{ne-eqb, not-false}
@@ -8,6 +8,7 @@ use Rattle.format.specs.Checks.{first}
 use Rattle.format.specs.Names.{nameDirectory, nameMetadata, nameAttachmentDirectory}
 use Rattle.format.specs.Segments.{RoomIn}
 use Rattle.format.specs.File.{directoryPosition, metadataPosition, attachmentDirectoryPosition, namesNone, namesNoneBut0, fileRows}
+use Rattle.format.specs.declared.Verdict.{Verdict}
 use Rattle.format.specs.declared.Verdict.the-variants.{Accepted}
 use Rattle.format.proofs.Firsts.{passed}
 use Rattle.format.proofs.SegmentLaws.{walked-room}
@@ -28,3 +29,7 @@ located bs h = record {
   metadata = optional-room bs (metadataPosition bs) nameMetadata (passed (fileRows bs) h 4);
   attachments = optional-room bs (attachmentDirectoryPosition bs) nameAttachmentDirectory (passed (fileRows bs) h 5);
 }
+
+-- by the answer v
+pub located-by : (bs : List ℕ) (v : Verdict) → v ≡ first (fileRows bs) → v ≡ Accepted → Located bs
+located-by bs v j a = located bs (sym j ∙ a)

@@ -7,13 +7,13 @@ ghost use lib.ListN.{length};
 ghost use Rattle.format.specs.Scan.{scanOf};
 ghost use Rattle.format.specs.Checks.{first};
 ghost use Rattle.format.specs.File.{namesNone, namesNoneBut0, fileRows};
-ghost use Rattle.format.specs.Directory.{directoryRows, tileCount};
-ghost use Rattle.format.specs.Attachments.{metadataRows, attachmentsRows, attachmentCount};
+ghost use Rattle.format.specs.Directory.{tileCount};
+ghost use Rattle.format.specs.Attachments.{attachmentCount};
 ghost use Rattle.format.specs.Rules.{verdict};
 ghost use Rattle.format.specs.Answers.{VerdictAnswered};
 ghost use Rattle.format.specs.declared.Verdict.the-variants.{Accepted};
 ghost use Rattle.segments.specs.Walk.{WalkTable};
-ghost use Rattle.judge.specs.Located.{Located};
+ghost use Rattle.judge.specs.Located.{annexRows, namedRows, Located};
 
 // ---- the file segment
 
@@ -44,25 +44,31 @@ fn judge_file(s: &[u8], table: &[u64; 8192], count: usize) -> Verdict
     requires { ⌜ 112 ≤ length (now s) ⌝ }
     ensures { λ r. ⌜ r ≡ first (fileRows (now (s .entry))) ⌝ }
 {
-    if fields::u32_at(s, 32) != 1 {
+    if segments::file::major(s) != 1 {
         return Verdict::Refused {
             number: 6,
             place: 0,
         };
     }
-    if fields::u32_at(s, 80) != 0 {
+    if segments::file::file_part(s) != 0 {
         return Verdict::Refused {
             number: 7,
             place: 0,
         };
     }
-    if fields::u32_at(s, 100) != 0 {
+    if segments::file::update_pending(s) != 0 {
         return Verdict::Refused {
             number: 8,
             place: 0,
         };
     }
-    if names_none(s, table, count, fields::u64_at(s, 84), b"ZISRAWDIRECTORY\0") {
+    if names_none(
+        s,
+        table,
+        count,
+        segments::file::directory_position(s),
+        b"ZISRAWDIRECTORY\0",
+    ) {
         return Verdict::Refused {
             number: 9,
             place: 84,
@@ -72,7 +78,7 @@ fn judge_file(s: &[u8], table: &[u64; 8192], count: usize) -> Verdict
         s,
         table,
         count,
-        fields::u64_at(s, 92),
+        segments::file::metadata_position(s),
         b"ZISRAWMETADATA\0\0",
     ) {
         return Verdict::Refused {
@@ -84,7 +90,7 @@ fn judge_file(s: &[u8], table: &[u64; 8192], count: usize) -> Verdict
         s,
         table,
         count,
-        fields::u64_at(s, 104),
+        segments::file::attachment_directory_position(s),
         b"ZISRAWATTDIR\0\0\0\0",
     ) {
         return Verdict::Refused {
@@ -101,7 +107,7 @@ fn judge_file(s: &[u8], table: &[u64; 8192], count: usize) -> Verdict
 fn judge_annexes(s: &[u8], table: &[u64; 8192], count: usize) -> Verdict
     requires { ⌜ WalkTable (now s) (now table) count ⌝ }
     requires { ⌜ (112 ≤ length (now s)) × Located (now s) ⌝ }
-    ensures { λ r. ⌜ r ≡ first (metadataRows (now (s .entry)) ++ attachmentsRows (now (s .entry))) ⌝ }
+    ensures { λ r. ⌜ r ≡ first (annexRows (now (s .entry))) ⌝ }
 {
     let v = attachments::judge_metadata(s);
     match v {
@@ -114,7 +120,7 @@ fn judge_annexes(s: &[u8], table: &[u64; 8192], count: usize) -> Verdict
 fn judge_named(s: &[u8], table: &[u64; 8192], count: usize) -> Verdict
     requires { ⌜ WalkTable (now s) (now table) count ⌝ }
     requires { ⌜ (112 ≤ length (now s)) × Located (now s) ⌝ }
-    ensures { λ r. ⌜ r ≡ first (directoryRows (scanOf (now (s .entry))) ++ (metadataRows (now (s .entry)) ++ attachmentsRows (now (s .entry)))) ⌝ }
+    ensures { λ r. ⌜ r ≡ first (namedRows (scanOf (now (s .entry)))) ⌝ }
 {
     let v = directory::judge_directory(s, table, count);
     match v {
@@ -127,7 +133,7 @@ fn judge_named(s: &[u8], table: &[u64; 8192], count: usize) -> Verdict
 fn judge_walked(s: &[u8], table: &[u64; 8192], count: usize) -> Verdict
     requires { ⌜ WalkTable (now s) (now table) count ⌝ }
     requires { ⌜ 112 ≤ length (now s) ⌝ }
-    ensures { λ r. ⌜ r ≡ first (fileRows (now (s .entry)) ++ (directoryRows (scanOf (now (s .entry))) ++ (metadataRows (now (s .entry)) ++ attachmentsRows (now (s .entry))))) ⌝ }
+    ensures { λ r. ⌜ r ≡ first (fileRows (now (s .entry)) ++ namedRows (scanOf (now (s .entry)))) ⌝ }
 {
     let v = judge_file(s, table, count);
     match v {
@@ -159,7 +165,7 @@ pub fn tile_count(s: &[u8]) -> u64
     requires { ⌜ verdict (scanOf (now s)) ≡ Accepted ⌝ }
     ensures { λ r. ⌜ r ≡ tileCount (now (s .entry)) ⌝ }
 {
-    fields::u32_at(s, fields::u64_at(s, 84) + 32)
+    directory::entry_count(s, segments::file::directory_position(s))
 }
 
 // How many attachments there are: none without an attachment directory.
@@ -167,9 +173,9 @@ pub fn attachment_count(s: &[u8]) -> u64
     requires { ⌜ verdict (scanOf (now s)) ≡ Accepted ⌝ }
     ensures { λ r. ⌜ r ≡ attachmentCount (now (s .entry)) ⌝ }
 {
-    let t = fields::u64_at(s, 104);
+    let t = segments::file::attachment_directory_position(s);
     if t == 0 {
         return 0;
     }
-    fields::u32_at(s, t + 32)
+    attachments::attachment_entry_count(s, t)
 }

@@ -7,17 +7,16 @@ use mathlib.Core.Logic.{⊎-elim}
 use native.Mathlib.Omega.{arith}
 use native.Mathlib.Numerals.{add-one}
 use native.Mathlib.Nat.{eq-or-lt-of-le, le-of-suc-le-suc}
-use lib.ListN.{length}
 use Rattle.format.specs.Scan.{scanOf}
 use Rattle.format.specs.Bytes.{anyBelow, leastBelow, biased}
-use Rattle.format.specs.File.{directoryPosition}
-use Rattle.format.specs.Entry.{nextEntry, letterPlace, isPyramid, dimensionsBad}
+use Rattle.format.specs.Entry.{nextEntry, letterPlace, isPyramid}
 use Rattle.format.specs.Directory.{tileCount, entryPlace}
 use Rattle.format.specs.Rules.{verdict}
 use Rattle.format.specs.declared.Verdict.the-variants.{Accepted}
 use Rattle.format.proofs.Below.{least-is}
 use Rattle.entries.proofs.EntryLaws.{Planed, dimensions-ok}
 use Rattle.judge.proofs.AcceptedFile.{tiled}
+use Rattle.judge.proofs.EntryLoop.{AtEntry, at-start, at-next}
 use Rattle.listing.specs.Summary.{plain, leastOf, greatestOf, nearEdge, farEdge}
 use Rattle.listing.specs.Figures.{cornersBelow, withTile, Held}
 use Rattle.listing.specs.declared.Corners.{Corners}
@@ -46,18 +45,6 @@ greatest-below (suc n) b pick f p h = go (pick n) (h n (omega arith)) (greatest-
     go true l g = omega arith
     go false l g = g
 
--- ---- a tile of an accepted file
-
-pub record Standing (bs : List ℕ) (e : ℕ) : Type 0 where
-  pub entry : nextEntry bs e ≤ length bs
-  pub dimensions : dimensionsBad bs e ≡ false
-  pub planed : Planed bs e
-
-pub standing : (bs : List ℕ) → verdict (scanOf bs) ≡ Accepted → (k : ℕ) → k < tileCount bs → Standing bs (entryPlace bs k)
-standing bs h k l =
-    let t = tiled (scanOf bs) h .tile k l .filled .agreed .placed .listed in
-    record { entry = t .entry; dimensions = t .dimensions; planed = dimensions-ok bs (entryPlace bs k) (t .dimensions) }
-
 -- ---- one tile more
 
 pub corners-next : (bs : List ℕ) (k : ℕ) → withTile bs (entryPlace bs k) (cornersBelow bs k) ≡ cornersBelow bs (k + 1)
@@ -75,10 +62,12 @@ unfolding nearEdge biased
 near-fits bs d = omega arith
 
 -- the least near edge of the picked numbers, where there is one
-least-near : (bs : List ℕ) (n : ℕ) (pick : ℕ → Bool) (place : ℕ → ℕ) → anyBelow n pick ≡ true → leastOf n pick (λ k. nearEdge bs (place k)) < 2 ^ 32
+least-near : (bs : List ℕ) (n : ℕ) (pick : ℕ → Bool) (place : ℕ → ℕ) → anyBelow n pick ≡ true
+    → leastOf n pick (λ k. nearEdge bs (place k)) < 2 ^ 32
 least-near bs n pick place h =
     let l = least-is n pick h in
-    omega (arith, least-at n (leastBelow n pick) pick (λ k. nearEdge bs (place k)) (l .below) (l .holds), near-fits bs (place (leastBelow n pick)))
+    let k = leastBelow n pick in
+    omega (arith, least-at n k pick (λ k. nearEdge bs (place k)) (l .below) (l .holds), near-fits bs (place k))
 
 pub corners-held : (bs : List ℕ) → verdict (scanOf bs) ≡ Accepted → Held (cornersBelow bs (tileCount bs))
 unfolding cornersBelow farEdge
@@ -87,33 +76,30 @@ corners-held bs h =
     record {
       left-fits = least-near bs n (plain bs) (λ k. letterPlace bs (entryPlace bs k) 88);
       top-fits = least-near bs n (plain bs) (λ k. letterPlace bs (entryPlace bs k) 89);
-      right-fits = greatest-below n (2 ^ 32) (plain bs) _ (omega arith) (λ k l. standing bs h k l .planed .x-sized .end);
-      bottom-fits = greatest-below n (2 ^ 32) (plain bs) _ (omega arith) (λ k l. standing bs h k l .planed .y-sized .end);
+      right-fits = greatest-below n (2 ^ 32) (plain bs) _ (omega arith) (λ k l. planed k l .x-sized .end);
+      bottom-fits = greatest-below n (2 ^ 32) (plain bs) _ (omega arith) (λ k l. planed k l .y-sized .end);
     }
+  where
+    planed : (k : ℕ) → k < tileCount bs → Planed bs (entryPlace bs k)
+    planed k l = dimensions-ok bs (entryPlace bs k) (tiled (scanOf bs) h .tile k l .filled .agreed .placed .listed .dimensions)
 
 -- ---- the loop over the tiles: those below k are in the box c, and the next entry is at e
 
 pub record Boxing (bs : List ℕ) (n : ℕ) (c : Corners) (e k : ℕ) : Type 0 where
-  pub count : k ≤ n
+  pub at : AtEntry bs n e k
   pub corners : c ≡ cornersBelow bs k
-  pub place : e ≡ entryPlace bs k
 
-pub boxing-start : (bs : List ℕ) (n e : ℕ) → e ≡ directoryPosition bs + 160
+pub boxing-start : (bs : List ℕ) (n e : ℕ) → e ≡ entryPlace bs 0
     → Boxing bs n (record { some = false; left = 4294967296; top = 4294967296; right = 0; bottom = 0 }) e 0
-unfolding cornersBelow leastOf greatestOf anyBelow entryPlace
-boxing-start bs n e p = record { count = omega arith; corners = refl; place = p }
+unfolding cornersBelow leastOf greatestOf anyBelow
+boxing-start bs n e p = record { at = at-start bs n e p; corners = refl }
 
-module _ (bs : List ℕ) (n : ℕ) (c : Corners) (e k : ℕ) (i : Boxing bs n c e k) (l : k < n) where
-  pub boxing-next : (r : Corners) → r ≡ withTile bs e c → Boxing bs n r (nextEntry bs e) (k + 1)
-  unfolding entryPlace
-  boxing-next r f = record {
-    count = omega arith;
-    corners = f ∙ (rw (i .corners, i .place) (corners-next bs k));
-    place = rw (add-one, i .place);
+module _ (bs : List ℕ) (n : ℕ) (c : Corners) (e k : ℕ) (i : Boxing bs n c e k) where
+  pub boxing-next : (r : Corners) (p : ℕ) → k < n → r ≡ withTile bs e c → p ≡ nextEntry bs e → Boxing bs n r p (k + 1)
+  boxing-next r p l f g = record {
+    at = at-next bs n e k (i .at) p l g;
+    corners = f ∙ rw (i .corners, i .at .place) (corners-next bs k);
   }
 
-  pub boxing-here : verdict (scanOf bs) ≡ Accepted → n ≤ tileCount bs → Standing bs e
-  boxing-here h m = rw (i .place) (standing bs h k (omega arith))
-
-pub boxing-end : (bs : List ℕ) (n : ℕ) (c : Corners) (e k : ℕ) → Boxing bs n c e k → n ≤ k → c ≡ cornersBelow bs n
-boxing-end bs n c e k i h = let f : k ≡ n = omega (arith, i .count) in rw f at (i .corners)
+  pub boxing-end : n ≤ k → c ≡ cornersBelow bs n
+  boxing-end h = let f : k ≡ n = omega (arith, i .at .count) in rw f at (i .corners)

@@ -9,9 +9,8 @@ ghost use lib.ListN.{length};
 ghost use Rattle.format.specs.Scan.{scanOf};
 ghost use Rattle.format.specs.Bytes.{signed32, biased};
 ghost use Rattle.format.specs.Segments.{walked};
-ghost use Rattle.format.specs.Entry.{nextEntry, dimensionsBad};
+ghost use Rattle.format.specs.Entry.{nextEntry, letterPlace, dimensionsBad};
 ghost use Rattle.format.specs.Directory.{tileCount};
-ghost use Rattle.format.specs.Attachments.{attachmentCount};
 ghost use Rattle.format.specs.Rules.{verdict};
 ghost use Rattle.format.specs.declared.Verdict.the-variants.{Accepted};
 ghost use Rattle.text.specs.Text.{decimal, signedDecimal, textOf, Clean, Appended};
@@ -85,20 +84,22 @@ fn greatest(a: u64, b: u64) -> u64
     b
 }
 
-// Where the dimension at d begins, plus 2^31.
-fn near_edge(s: &[u8], d: u64) -> u64
-    requires { ⌜ d + 20 ≤ length (now s) ⌝ }
-    ensures { λ r. ⌜ r ≡ nearEdge (now (s .entry)) d ⌝ }
+// The less of a corner and where the dimension of the letter x begins, plus 2^31.
+fn nearer(s: &[u8], e: u64, x: u64, corner: u64) -> u64
+    requires { ⌜ (nextEntry (now s) e ≤ length (now s)) × (letterPlace (now s) e x + 20 ≤ length (now s)) ⌝ }
+    ensures { λ r. ⌜ r ≡ min (nearEdge (now (s .entry)) (letterPlace (now (s .entry)) e x)) corner ⌝ }
 {
-    fields::biased_of(fields::u32_at(s, d + 4))
+    let d = entries::letter_place(s, e, x);
+    least(entries::biased_start(s, d), corner)
 }
 
-// Where it ends, plus 2^31.
-fn far_edge(s: &[u8], d: u64) -> u64
-    requires { ⌜ d + 20 ≤ length (now s) ⌝ }
-    ensures { λ r. ⌜ r ≡ farEdge (now (s .entry)) d ⌝ }
+// The greater of a corner and where it ends, plus 2^31.
+fn farther(s: &[u8], e: u64, x: u64, corner: u64) -> u64
+    requires { ⌜ (nextEntry (now s) e ≤ length (now s)) × (letterPlace (now s) e x + 20 ≤ length (now s)) ⌝ }
+    ensures { λ r. ⌜ r ≡ max (farEdge (now (s .entry)) (letterPlace (now (s .entry)) e x)) corner ⌝ }
 {
-    fields::biased_of(fields::u32_at(s, d + 4)) + fields::u32_at(s, d + 8)
+    let d = entries::letter_place(s, e, x);
+    greatest(entries::biased_start(s, d) + entries::size_at(s, d), corner)
 }
 
 // The box with the tile of the entry at e in it, unless that is a pyramid tile.
@@ -109,12 +110,10 @@ fn with_tile(c: Corners, s: &[u8], e: u64) -> Corners
     if entries::is_pyramid(s, e) {
         return c;
     }
-    let x = entries::letter_place(s, e, 88);
-    let y = entries::letter_place(s, e, 89);
-    let left = least(near_edge(s, x), c.left);
-    let top = least(near_edge(s, y), c.top);
-    let right = greatest(far_edge(s, x), c.right);
-    let bottom = greatest(far_edge(s, y), c.bottom);
+    let left = nearer(s, e, 88, c.left);
+    let top = nearer(s, e, 89, c.top);
+    let right = farther(s, e, 88, c.right);
+    let bottom = farther(s, e, 89, c.bottom);
     Corners {
         some: true,
         left,
@@ -136,11 +135,11 @@ fn corners_of(s: &[u8], n: u64) -> Corners
         right: 0,
         bottom: 0,
     };
-    let mut e = fields::u64_at(s, 84) + 160;
+    let mut e = directory::first_entry(s);
     let mut k: u64 = 0;
     while k < n {
         c = with_tile(c, s, e);
-        e = e + 32 + 20 * entries::dimension_count(s, e);
+        e = entries::next_entry(s, e);
         k += 1;
     }
     c

@@ -1,21 +1,21 @@
--- What an accepted question about a tile, a dimension or an attachment tells, and how its verdict comes about. Assumes nothing.
-use Prim.Native.Nat.{ℕ, _+_, _*_, _^_, _≤_, _<_}
-use native.Mathlib.Numerals.{add-one}
+-- What an accepted question about a tile, a dimension, an attachment or the metadata segment tells, and how its verdict comes about. Assumes nothing.
+use Prim.Native.Nat.{ℕ, _+_, _^_, _≤_, _<_}
 use mathlib.Core.Path.{_≡_, sym, _∙_}
 use mathlib.Core.List.{List, [], _∷_, _++_, append-assoc}
 use mathlib.Core.Bool.{Bool, true, false, cond}
 use native.Mathlib.Omega.{arith}
 use lib.ListN.{length}
 use lib.Dec.{eqb, leb}
-use borrow.Author.Tests.{leb-false, eq-eqb}
-use Rattle.format.specs.Scan.{Scan, scanOf}
+use borrow.Author.Tests.{leb-false, eq-eqb, ne-eqb}
+use Rattle.format.specs.Scan.{Scan, scanOf, blockFile}
 use Rattle.format.specs.Checks.{Check, row, first}
-use Rattle.format.specs.File.{attachmentDirectoryPosition}
-use Rattle.format.specs.Entry.{dimensionCount, nextEntry, filePosition}
-use Rattle.format.specs.Directory.{tileCount, entryPlace}
-use Rattle.format.specs.Attachments.{attachmentCount, attachmentEntryCount}
+use Rattle.format.specs.File.{metadataPosition, attachmentDirectoryPosition}
+use Rattle.format.specs.Entry.{dimensionCount, dimensionPlace, filePosition}
+use Rattle.format.specs.Directory.{tileCount}
+use Rattle.format.specs.Attachments.{xmlSize, xmlAttachmentSize, attachmentCount, attachmentEntryCount, attachmentEntry, attachmentPosition, attachmentDataSize}
 use Rattle.format.specs.Rules.{checks, verdict, tileVerdict, attachmentVerdict}
-use Rattle.format.specs.Records.{dimensionVerdict}
+use Rattle.format.specs.Records.{tileEntry, tileFile, tilePosition, dimensionVerdict, span, xmlSpan, xmlAttachmentSpan}
+use Rattle.format.specs.declared.Span.{Span}
 use Rattle.format.specs.declared.Verdict.{Verdict}
 use Rattle.format.specs.declared.Verdict.the-variants.{Accepted, Refused}
 use Rattle.format.specs.Answers.{VerdictAnswered}
@@ -24,7 +24,8 @@ use Rattle.format.proofs.Answering.{verdict-answered, accepted}
 use Rattle.directory.proofs.Stages.{then-stop, then-next}
 use Rattle.subblocks.specs.Judged.{Filled, Judged}
 use Rattle.subblocks.proofs.PartLaws.{listed-in}
-use Rattle.judge.proofs.AcceptedFile.{tiled, Attached, attached}
+use Rattle.entries.proofs.EntryLaws.{dimension-within}
+use Rattle.judge.proofs.AcceptedFile.{tiled, described, Attached, attached}
 
 -- ---- a row 24 behind other rows, of which v was answered
 
@@ -50,58 +51,75 @@ asked-both rows none h =
 
 pub record TileThere (sc : Scan) (n : ℕ) : Type 0 where
   pub accepted : verdict sc ≡ Accepted
-  pub small : length (sc .file) ≤ 2 ^ 40
   pub below : n < tileCount (sc .file)
-  pub entry : entryPlace (sc .file) n + 32 ≤ length (sc .file)
-  pub judged : Judged (sc .file) (entryPlace (sc .file) n) (sc .file) (filePosition (sc .file) (entryPlace (sc .file) n))
+  pub judged : Judged (sc .file) (tileEntry sc n) (tileFile sc n) (tilePosition sc n)
 
 pub tile-there : (sc : Scan) (n : ℕ) → tileVerdict sc n ≡ Accepted → TileThere sc n
 unfolding verdict tileVerdict
 tile-there sc n h =
     let both = asked-both (checks sc) (leb (tileCount (sc .file)) n) h in
     let below = leb-false (tileCount (sc .file)) n (both .1) in
-    let file = tiled sc (both .0) in
-    let judged = file .tile n below in
-    record { accepted = both .0; small = file .small; below = below; entry = listed-in (sc .file) (entryPlace (sc .file) n) (judged .filled .agreed .placed .listed); judged = judged }
+    record { accepted = both .0; below = below; judged = tiled sc (both .0) .tile n below }
+
+-- what may be read of the lent file bs
+module _ (bs : List ℕ) (n : ℕ) (h : tileVerdict (scanOf bs) n ≡ Accepted) where
+  pub tile-accepted : verdict (scanOf bs) ≡ Accepted
+  tile-accepted = tile-there (scanOf bs) n h .accepted
+
+  pub tile-below : n ≤ tileCount bs
+  tile-below = omega (arith, tile-there (scanOf bs) n h .below)
+
+  -- of the entry at e
+  pub tile-fixed : (e : ℕ) → e ≡ tileEntry (scanOf bs) n → e + 32 ≤ length bs
+  tile-fixed e i = rw i (listed-in _ _ (tile-there (scanOf bs) n h .judged .filled .agreed .placed .listed))
 
 -- the sub-block at q of the entry at e of tile n of the lent file bs
-module _ (bs : List ℕ) (n e q : ℕ) {v : Verdict} (a : VerdictAnswered (tileVerdict (scanOf bs) n) v) (h : v ≡ Accepted) (i : e ≡ entryPlace bs n) (j : q ≡ filePosition bs e) where
-  pub judged-at : Judged bs e bs q
+module _ (bs : List ℕ) (n e q : ℕ) {v : Verdict} (a : VerdictAnswered (tileVerdict (scanOf bs) n) v) (h : v ≡ Accepted)
+    (i : e ≡ tileEntry (scanOf bs) n) (j : q ≡ filePosition bs e) where
+  pub judged-at : Judged bs e (blockFile (scanOf bs) e) q
   judged-at = rw (j, i) (tile-there (scanOf bs) n (accepted a h) .judged)
 
-  pub filled-at : Filled bs e bs q
+  pub filled-at : Filled bs e (blockFile (scanOf bs) e) q
   filled-at = judged-at .filled
-
--- the entry at e of tile k, before tile n
-module _ (sc : Scan) (n k e : ℕ) (h : tileVerdict sc n ≡ Accepted) (l : k < n) (p : e ≡ entryPlace (sc .file) k) where
-  pub entry-fits : (e + 32 + 20 * dimensionCount (sc .file) e ≤ length (sc .file)) × (length (sc .file) ≤ 2 ^ 40)
-  unfolding nextEntry
-  entry-fits =
-      let t = tile-there sc n h in
-      let file = tiled sc (t .accepted) in
-      rw p (file .tile k (omega (arith, t .below)) .filled .agreed .placed .listed .entry, file .small)
-
-  pub entry-step : e + 32 + 20 * dimensionCount (sc .file) e ≡ entryPlace (sc .file) (k + 1)
-  unfolding entryPlace nextEntry
-  entry-step = rw (p, add-one)
 
 -- ---- dimensions of a tile
 
-pub dimension-asked : (sc : Scan) (n k : ℕ) → dimensionVerdict sc n k ≡ first (Asked (Asked (checks sc) (leb (tileCount (sc .file)) n)) (leb (dimensionCount (sc .file) (entryPlace (sc .file) n)) k))
+pub dimension-asked : (sc : Scan) (n k : ℕ)
+    → dimensionVerdict sc n k ≡ first (Asked (Asked (checks sc) (leb (tileCount (sc .file)) n)) (leb (dimensionCount (sc .file) (tileEntry sc n)) k))
 unfolding dimensionVerdict
 dimension-asked sc n k = rw append-assoc
 
 pub record DimensionThere (sc : Scan) (n k : ℕ) : Type 0 where
   pub tile : tileVerdict sc n ≡ Accepted
   pub small : length (sc .file) ≤ 2 ^ 40
-  pub entry : entryPlace (sc .file) n + 32 + 20 * k + 20 ≤ length (sc .file)
+  pub within : dimensionPlace (tileEntry sc n) k + 20 ≤ length (sc .file)
 
-pub dimension-there : (sc : Scan) (n k : ℕ) → dimensionVerdict sc n k ≡ Accepted → DimensionThere sc n k
-unfolding tileVerdict nextEntry
+dimension-there : (sc : Scan) (n k : ℕ) → dimensionVerdict sc n k ≡ Accepted → DimensionThere sc n k
+unfolding tileVerdict
 dimension-there sc n k h =
-    let both = asked-both (Asked (checks sc) (leb (tileCount (sc .file)) n)) (leb (dimensionCount (sc .file) (entryPlace (sc .file) n)) k) (sym (dimension-asked sc n k) ∙ h) in
+    let e = tileEntry sc n in
+    let asked = Asked (checks sc) (leb (tileCount (sc .file)) n) in
+    let both = asked-both asked (leb (dimensionCount (sc .file) e) k) (sym (dimension-asked sc n k) ∙ h) in
     let t = tile-there sc n (both .0) in
-    record { tile = both .0; small = t .small; entry = omega (arith, leb-false (dimensionCount (sc .file) (entryPlace (sc .file) n)) k (both .1), t .judged .filled .agreed .placed .listed .entry) }
+    let l = t .judged .filled .agreed .placed .listed in
+    record {
+      tile = both .0;
+      small = tiled sc (t .accepted) .small;
+      within = omega (arith, l .entry, dimension-within (sc .file) e k (leb-false (dimensionCount (sc .file) e) k (both .1)));
+    }
+
+-- what may be read of the lent file bs
+module _ (bs : List ℕ) (n k : ℕ) (h : dimensionVerdict (scanOf bs) n k ≡ Accepted) where
+  pub dimension-tile : tileVerdict (scanOf bs) n ≡ Accepted
+  dimension-tile = dimension-there (scanOf bs) n k h .tile
+
+  -- of dimension k of the entry at e
+  module _ (e : ℕ) (i : e ≡ tileEntry (scanOf bs) n) where
+    pub dimension-small : dimensionPlace e k < 2 ^ 64
+    dimension-small = let t = dimension-there (scanOf bs) n k h in rw i (omega (arith, t .small, t .within))
+
+    pub dimension-in : (d : ℕ) → d ≡ dimensionPlace e k → d + 20 ≤ length bs
+    dimension-in d j = rw (j, i) (dimension-there (scanOf bs) n k h .within)
 
 -- ---- attachments
 
@@ -113,16 +131,61 @@ attachments-some t n k h = ((λ e. let l = rw (eq-eqb t 0 e) at h in absurd (ome
     go true l = absurd (omega arith)
     go false l = l
 
-pub record AttachmentThere (sc : Scan) (n : ℕ) : Type 0 where
+-- the attachment at q, whose entry is at e
+pub record AttachmentThere (sc : Scan) (e q : ℕ) : Type 0 where
   pub long : 112 ≤ length (sc .file)
   pub small : length (sc .file) ≤ 2 ^ 40
-  pub attached : Attached sc (attachmentDirectoryPosition (sc .file)) n
+  pub attached : Attached sc e q
 
-pub attachment-there : (sc : Scan) (n : ℕ) → attachmentVerdict sc n ≡ Accepted → AttachmentThere sc n
+-- the entry and the place of attachment n
+abbrev pub annexEntry : List ℕ → ℕ → ℕ
+annexEntry bs n = attachmentEntry (attachmentDirectoryPosition bs) n
+
+abbrev pub annexPosition : List ℕ → ℕ → ℕ
+annexPosition bs n = attachmentPosition bs (annexEntry bs n)
+
+attachment-there : (sc : Scan) (n : ℕ) → attachmentVerdict sc n ≡ Accepted → AttachmentThere sc (annexEntry (sc .file) n) (annexPosition (sc .file) n)
 unfolding verdict attachmentVerdict attachmentCount
 attachment-there sc n h =
     let both = asked-both (checks sc) (leb (attachmentCount (sc .file)) n) h in
     let file = tiled sc (both .0) in
     let t = attachmentDirectoryPosition (sc .file) in
     let s = attachments-some t (attachmentEntryCount (sc .file) t) n (leb-false (attachmentCount (sc .file)) n (both .1)) in
-    record { long = file .long; small = file .small; attached = attached sc (both .0) (s .0) .1 n (s .1) }
+    record { long = file .long; small = file .small; attached = attached sc (both .0) (s .0) .attachment n (s .1) }
+
+-- what may be read of the lent file bs
+module _ (bs : List ℕ) (n : ℕ) (h : attachmentVerdict (scanOf bs) n ≡ Accepted) where
+  pub attachment-long : 112 ≤ length bs
+  attachment-long = attachment-there (scanOf bs) n h .long
+
+  -- of the entry, where the attachment directory is at t
+  module _ (t : ℕ) (i : t ≡ attachmentDirectoryPosition bs) where
+    pub annex-small : attachmentEntry t n < 2 ^ 64
+    annex-small = let a = attachment-there (scanOf bs) n h in rw i (omega (arith, a .small, a .attached .entry))
+
+    pub annex-in : (e : ℕ) → e ≡ attachmentEntry t n → e + 128 ≤ length bs
+    annex-in e j = rw (j, i) (attachment-there (scanOf bs) n h .attached .entry)
+
+  -- of the attachment at q
+  pub data-in : (q : ℕ) → q ≡ annexPosition bs n → q + 288 + attachmentDataSize bs q ≤ length bs
+  data-in q i = let a = attachment-there (scanOf bs) n h .attached in rw i (omega (arith, a .room-in, a .fits))
+
+-- ---- the metadata segment
+
+-- what may be read of the lent file bs where the metadata segment is at m
+pub xml-in : (bs : List ℕ) → verdict (scanOf bs) ≡ Accepted → (m : ℕ) → m ≡ metadataPosition bs → (m ≡ 0 → ⊥)
+    → m + 288 + xmlSize bs m + xmlAttachmentSize bs m ≤ length bs
+xml-in bs a m i some = let d = described (scanOf bs) a (λ z. some (i ∙ z)) in rw i (omega (arith, d .room-in, d .fits))
+
+-- the XML's stretch x where there is a metadata segment, at m, and what lies behind it
+module _ (bs : List ℕ) (m : ℕ) (i : m ≡ metadataPosition bs) (some : m ≡ 0 → ⊥) (x : Span) (f : x ≡ xmlSpan bs (metadataPosition bs)) where
+  xml-is : x ≡ span (m + 288) (xmlSize bs m)
+  unfolding xmlSpan
+  xml-is = f ∙ rw (← i, ne-eqb m 0 some)
+
+  pub behind-in : verdict (scanOf bs) ≡ Accepted → x .start + x .length + xmlAttachmentSize bs m ≤ length bs
+  behind-in a = rw xml-is (xml-in bs a m i some)
+
+  pub behind-is : (n : ℕ) → n ≡ xmlAttachmentSize bs m → span (x .start + x .length) n ≡ xmlAttachmentSpan bs (metadataPosition bs)
+  unfolding xmlAttachmentSpan
+  behind-is n j = rw (← i, ne-eqb m 0 some, xml-is, j)

@@ -8,12 +8,12 @@ use lib.ListN.{length}
 use denote.Ref.{RefT}
 use lib.Dec.{eqb}
 use borrow.Author.Tests.{eqb-false}
-use Rattle.format.specs.Scan.{scanOf}
+use Rattle.format.specs.Scan.{Scan, scanOf}
 use Rattle.format.specs.File.{metadataPosition}
-use Rattle.format.specs.Entry.{filePosition}
-use Rattle.format.specs.Directory.{entryPlace}
 use Rattle.format.specs.Rules.{verdict, tileVerdict, attachmentVerdict}
-use Rattle.format.specs.Records.{span, spanIf, metadataSpan, pixelsSpan, attachmentSpan, tilePixels, tileMetadata, tileAttachment, attachmentDataSpan, attachmentData, xmlSpan, xmlAttachmentSpan, commonXml, commonAttachment}
+use Rattle.format.specs.Records.{span, spanIf, tileEntry, tileFile, tilePosition, metadataSpan, pixelsSpan, attachmentSpan, tilePixels, tileMetadata}
+use Rattle.format.specs.Records.{tileAttachment}
+use Rattle.format.specs.Records.{attachmentDataSpan, attachmentData, xmlSpan, xmlAttachmentSpan, commonXml, commonAttachment}
 use Rattle.format.specs.Answers.{SpanAnswered, spanIn}
 use Rattle.format.specs.Views.{View}
 use Rattle.format.specs.declared.Verdict.{Verdict}
@@ -21,8 +21,7 @@ use Rattle.format.specs.declared.Verdict.the-variants.{Accepted, Refused}
 use Rattle.format.specs.declared.Span.{Span}
 use Rattle.format.specs.declared.SpanAnswer.{SpanAnswer}
 use Rattle.subblocks.proofs.PartLaws.{Laid, filled-in}
-use Rattle.judge.proofs.AcceptedFile.{described}
-use Rattle.parts.proofs.Numbered.{tile-there, attachment-there}
+use Rattle.parts.proofs.Numbered.{tile-there, annexPosition, data-in, xml-in}
 
 abbrev pub Within : List ℕ → Span → Type 0
 Within bs s = s .start + s .length ≤ length bs
@@ -39,25 +38,26 @@ module _ {v : Verdict} {s r : Span} {a : SpanAnswer} (h : SpanAnswered v s a) (e
   pub answered-view : {whole part : RefT (List ℕ)} → View whole r part → View whole s part
   answered-view w = rw (← h .span-is, ← e) w
 
-module _ (bs : List ℕ) (n : ℕ) where
-  laid : tileVerdict (scanOf bs) n ≡ Accepted → Laid bs (entryPlace bs n) bs (filePosition bs (entryPlace bs n))
-  laid h = filled-in _ _ _ _ (tile-there (scanOf bs) n h .judged .filled)
+-- the parts of tile n lie in the file that its entry names
+module _ (sc : Scan) (n : ℕ) where
+  laid : tileVerdict sc n ≡ Accepted → Laid (sc .file) (tileEntry sc n) (tileFile sc n) (tilePosition sc n)
+  laid h = filled-in _ _ _ _ (tile-there sc n h .judged .filled)
 
-  pub pixels-within : Within bs (tilePixels (scanOf bs) n)
+  pub pixels-within : Within (tileFile sc n) (tilePixels sc n)
   unfolding tilePixels pixelsSpan
-  pixels-within = span-within bs (tileVerdict (scanOf bs) n) _ (λ h. laid h .pixels)
+  pixels-within = span-within (tileFile sc n) (tileVerdict sc n) _ (λ h. laid h .pixels)
 
-  pub metadata-within : Within bs (tileMetadata (scanOf bs) n)
+  pub metadata-within : Within (tileFile sc n) (tileMetadata sc n)
   unfolding tileMetadata metadataSpan
-  metadata-within = span-within bs (tileVerdict (scanOf bs) n) _ (λ h. laid h .metadata)
+  metadata-within = span-within (tileFile sc n) (tileVerdict sc n) _ (λ h. laid h .metadata)
 
-  pub attachment-within : Within bs (tileAttachment (scanOf bs) n)
+  pub attachment-within : Within (tileFile sc n) (tileAttachment sc n)
   unfolding tileAttachment attachmentSpan
-  attachment-within = span-within bs (tileVerdict (scanOf bs) n) _ (λ h. laid h .attachment)
+  attachment-within = span-within (tileFile sc n) (tileVerdict sc n) _ (λ h. laid h .attachment)
 
-  pub data-within : Within bs (attachmentData (scanOf bs) n)
-  unfolding attachmentData attachmentDataSpan
-  data-within = span-within bs (attachmentVerdict (scanOf bs) n) _ (λ h. let a = attachment-there (scanOf bs) n h .attached in omega (arith, a .room-in, a .fits))
+pub data-within : (bs : List ℕ) (n : ℕ) → Within bs (attachmentData (scanOf bs) n)
+unfolding attachmentData attachmentDataSpan
+data-within bs n = span-within bs (attachmentVerdict (scanOf bs) n) _ (λ h. data-in bs n h (annexPosition bs n) refl)
 
 -- a stretch that is empty where m is 0
 some-within : (bs : List ℕ) (m : ℕ) (s : Span) → ((m ≡ 0 → ⊥) → Within bs s) → Within bs (cond (eqb m 0) (span 0 0) s)
@@ -70,8 +70,12 @@ some-within bs m s h = go (eqb m 0) refl
 module _ (bs : List ℕ) where
   pub xml-within : Within bs (commonXml (scanOf bs))
   unfolding commonXml xmlSpan
-  xml-within = span-within bs (verdict (scanOf bs)) _ (λ h. some-within bs (metadataPosition bs) _ (λ some. let d = described (scanOf bs) h some in omega (arith, d .room-in, d .fits)))
+  xml-within =
+      let m = metadataPosition bs in
+      span-within bs (verdict (scanOf bs)) _ (λ h. some-within bs m _ (λ some. omega (arith, xml-in bs h m refl some)))
 
   pub xml-attachment-within : Within bs (commonAttachment (scanOf bs))
   unfolding commonAttachment xmlAttachmentSpan
-  xml-attachment-within = span-within bs (verdict (scanOf bs)) _ (λ h. some-within bs (metadataPosition bs) _ (λ some. let d = described (scanOf bs) h some in omega (arith, d .room-in, d .fits)))
+  xml-attachment-within =
+      let m = metadataPosition bs in
+      span-within bs (verdict (scanOf bs)) _ (λ h. some-within bs m _ (λ some. xml-in bs h m refl some))

@@ -8,10 +8,11 @@ ghost use mathlib.Core.Path.{_≡_};
 ghost use Rattle.format.specs.Scan.{scanOf};
 ghost use Rattle.format.specs.File.{metadataPosition, attachmentDirectoryPosition};
 ghost use Rattle.format.specs.Entry.{filePosition};
-ghost use Rattle.format.specs.Directory.{tileCount, entryPlace};
-ghost use Rattle.format.specs.Attachments.{attachmentCount, attachmentEntry, attachmentPosition};
+ghost use Rattle.format.specs.Directory.{entryPlace};
+ghost use Rattle.format.specs.Attachments.{attachmentEntry, attachmentPosition};
 ghost use Rattle.format.specs.Rules.{verdict, tileVerdict, attachmentVerdict};
-ghost use Rattle.format.specs.Records.{span, dimensionVerdict, tileRecord, dimensionRecord, tilePixels, tileMetadata, tileAttachment, attachmentDataSpan, attachmentData, xmlSpan, xmlAttachmentSpan, commonXml, commonAttachment};
+ghost use Rattle.format.specs.Records.{span, dimensionVerdict, tileRecord, dimensionRecord, tilePixels, tileMetadata, tileAttachment};
+ghost use Rattle.format.specs.Records.{attachmentDataSpan, attachmentData, xmlSpan, xmlAttachmentSpan, commonXml, commonAttachment};
 ghost use Rattle.format.specs.Answers.{VerdictAnswered, SpanAnswered, TileAnswered, DimensionAnswered, spanIn};
 ghost use Rattle.format.specs.Views.{View};
 ghost use Rattle.format.specs.declared.Verdict.the-variants.{Accepted};
@@ -65,10 +66,10 @@ fn entry_place(s: &[u8], n: u64) -> u64
     requires { ⌜ tileVerdict (scanOf (now s)) n ≡ Accepted ⌝ }
     ensures { λ r. ⌜ r ≡ entryPlace (now (s .entry)) n ⌝ }
 {
-    let mut e = fields::u64_at(s, 84) + 160;
+    let mut e = directory::first_entry(s);
     let mut k: u64 = 0;
     while k < n {
-        e = e + 32 + 20 * entries::dimension_count(s, e);
+        e = entries::next_entry(s, e);
         k += 1;
     }
     e
@@ -79,7 +80,7 @@ fn sub_block_place(s: &[u8], n: u64, e: u64) -> u64
     requires { ⌜ (tileVerdict (scanOf (now s)) n ≡ Accepted) × (e ≡ entryPlace (now s) n) ⌝ }
     ensures { λ r. ⌜ r ≡ filePosition (now (s .entry)) e ⌝ }
 {
-    fields::u64_at(s, e + 6)
+    entries::file_position(s, e)
 }
 
 // The tile record of number n.
@@ -202,7 +203,7 @@ pub fn dimension(s: &[u8], n: u64, k: u64) -> DimensionAnswer
         Verdict::Refused { number, place } => DimensionAnswer::Refused { number, place },
         Verdict::Accepted => {
             let e = entry_place(s, n);
-            DimensionAnswer::Found(entries::dimension_at(s, e + 32 + 20 * k))
+            DimensionAnswer::Found(entries::dimension_at(s, entries::dimension_place(e, k)))
         }
     }
 }
@@ -229,21 +230,22 @@ pub fn attachment_refusal(s: &[u8], n: u64) -> Verdict
 }
 
 // Where attachment n stands.
-fn attachment_position(s: &[u8], n: u64) -> u64
+fn attachment_at(s: &[u8], n: u64) -> u64
     requires { ⌜ attachmentVerdict (scanOf (now s)) n ≡ Accepted ⌝ }
     ensures { λ r. ⌜ r ≡ attachmentPosition (now (s .entry)) (attachmentEntry (attachmentDirectoryPosition (now (s .entry))) n) ⌝ }
 {
-    let e = fields::u64_at(s, 104) + 288 + 128 * n;
-    fields::u64_at(s, e + 12)
+    let t = segments::file::attachment_directory_position(s);
+    attachments::attachment_position(s, attachments::attachment_entry(t, n))
 }
 
 // The stretch of the data of attachment n, which stands at q.
 fn data_span(s: &[u8], n: u64, q: u64) -> Span
-    requires { ⌜ (attachmentVerdict (scanOf (now s)) n ≡ Accepted) × (q ≡ attachmentPosition (now s) (attachmentEntry (attachmentDirectoryPosition (now s)) n)) ⌝ }
+    requires { ⌜ attachmentVerdict (scanOf (now s)) n ≡ Accepted ⌝ }
+    requires { ⌜ q ≡ attachmentPosition (now s) (attachmentEntry (attachmentDirectoryPosition (now s)) n) ⌝ }
     ensures { λ r. ⌜ r ≡ attachmentDataSpan (now (s .entry)) q ⌝ }
 {
     let start = q + 288;
-    let length = fields::u32_at(s, q + 32);
+    let length = attachments::attachment_data_size(s, q);
     Span { start, length }
 }
 
@@ -254,7 +256,7 @@ pub fn attachment_data_span(s: &[u8], n: u64) -> SpanAnswer
     let v = attachment_refusal(s, n);
     match v {
         Verdict::Refused { number, place } => SpanAnswer::Refused { number, place },
-        Verdict::Accepted => SpanAnswer::Found(data_span(s, n, attachment_position(s, n))),
+        Verdict::Accepted => SpanAnswer::Found(data_span(s, n, attachment_at(s, n))),
     }
 }
 
@@ -275,12 +277,12 @@ fn xml_span(s: &[u8]) -> Span
     requires { ⌜ verdict (scanOf (now s)) ≡ Accepted ⌝ }
     ensures { λ r. ⌜ r ≡ xmlSpan (now (s .entry)) (metadataPosition (now (s .entry))) ⌝ }
 {
-    let m = fields::u64_at(s, 92);
+    let m = segments::file::metadata_position(s);
     if m == 0 {
         return nothing();
     }
     let start = m + 288;
-    let length = fields::u32_at(s, m + 32);
+    let length = attachments::xml_size(s, m);
     Span { start, length }
 }
 
@@ -289,12 +291,13 @@ fn xml_attachment_span(s: &[u8]) -> Span
     requires { ⌜ verdict (scanOf (now s)) ≡ Accepted ⌝ }
     ensures { λ r. ⌜ r ≡ xmlAttachmentSpan (now (s .entry)) (metadataPosition (now (s .entry))) ⌝ }
 {
-    let m = fields::u64_at(s, 92);
+    let m = segments::file::metadata_position(s);
     if m == 0 {
         return nothing();
     }
-    let start = m + 288 + fields::u32_at(s, m + 32);
-    let length = fields::u32_at(s, m + 36);
+    let xml = xml_span(s);
+    let start = xml.start + xml.length;
+    let length = attachments::xml_attachment_size(s, m);
     Span { start, length }
 }
 

@@ -29,7 +29,8 @@ cond-some : (b : Bool) (p : ℕ) → (cond b p 0 ≡ 0 → ⊥) → (b ≡ true)
 cond-some true p h = (refl, refl)
 cond-some false p h = absurd (h refl)
 
-module _ (bs : List ℕ) (starts : List ℤ) (anyScene : Bool) (before after : List ℕ) (r : ℕ) (w : Selection bs starts anyScene before after r) (k : ℕ) (h : k < r) where
+module _ (bs : List ℕ) (starts : List ℤ) (anyScene : Bool) (before after : List ℕ) (r : ℕ) (w : Selection bs starts anyScene before after r)
+    (k : ℕ) (h : k < r) where
   is-here : getD after k 0 ≡ cond (selects bs starts anyScene (entryPlace bs k)) (entryPlace bs k) 0
   is-here = w .entry-is k (rw (← w .count-is) h)
 

@@ -1,3 +1,3 @@
--- Laws of the loop that selects, and of the table that it leaves.
+-- Laws of the loops that select, and of the table that they leave.
 pub mod Selecting
 pub mod Chosen

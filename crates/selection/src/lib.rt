@@ -30,7 +30,7 @@ fn tile_start(s: &[u8], e: u64, x: u64) -> u64
 {
     if entries::holds_letter(s, e, x) {
         let d = entries::letter_place(s, e, x);
-        return fields::biased_of(fields::u32_at(s, d + 4));
+        return entries::biased_start(s, d);
     }
     2147483648
 }
@@ -104,13 +104,12 @@ pub fn select(s: &[u8], starts: &[i32], any_scene: bool, table: &mut [u64; 4096]
     requires { ⌜ length (now table) ≡ 4096 ⌝ }
     ensures { λ r. ⌜ Selection (now (s .entry)) (now (starts .entry)) «any_scene» (now (table .entry)) (now (table .exit)) r ⌝ }
 {
-    let d = fields::u64_at(s, 84);
-    let n = fields::u32_at(s, d + 32);
-    let mut e = d + 160;
+    let n = judge::tile_count(s);
+    let mut e = directory::first_entry(s);
     let mut k: u64 = 0;
     while k < n {
         table[k as usize] = place_if_selected(s, e, starts, any_scene);
-        e = e + 32 + 20 * entries::dimension_count(s, e);
+        e = entries::next_entry(s, e);
         k += 1;
     }
     n

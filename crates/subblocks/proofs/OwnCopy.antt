@@ -19,7 +19,8 @@ module _ (ds : List ℕ) (e : ℕ) (bs : List ℕ) (q : ℕ) (agree : subBlockBa
   unfolding subBlockBad copyBad dimensionCount
   own-count =
       let at : q + 48 + 28 ≡ q + 76 = omega arith in
-      rw at (same-u32 ds (e + 28) bs (q + 76) (λ i h. range-bytes (4 + 20 * u32At ds (e + 28)) ds (e + 28) bs (q + 76) (not-false _ (none _ (none _ agree 1) 1)) i (omega arith)))
+      let same = range-bytes (4 + 20 * u32At ds (e + 28)) ds (e + 28) bs (q + 76) (not-false _ (none _ (none _ agree 1) 1)) in
+      rw at (same-u32 ds (e + 28) bs (q + 76) (λ i h. same i (omega arith)))
 
   pub own-rows : attachmentRows ds e bs q ≡ attachmentRows bs (q + 48) bs q
   unfolding attachmentRows hasChunks metadataPlace pixelsPlace attachmentPlace

@@ -4,28 +4,57 @@ use format::Tile;
 use format::TileMask;
 use format::Verdict;
 ghost use mathlib.Core.Path.{_≡_};
-ghost use Prim.Native.Nat.{_+_, _*_, _<_, _≤_};
+ghost use Prim.Native.Nat.{_+_, _<_, _≤_, _^_};
 ghost use lib.ListN.{length};
 ghost use lib.Dec.{eqb};
 ghost use Rattle.format.specs.Checks.{first};
 ghost use Rattle.format.specs.Entry.{dimensionCount, nextEntry};
-ghost use Rattle.format.specs.SubBlock.{fixedPart, copyBad, subBlockBad, pixelsSize, contentsBad, metadataPlace, pixelsPlace, attachmentPlace};
+ghost use Rattle.format.specs.SubBlock.{metadataSize, attachmentSize, dataSize, fixedPart, copyBad, subBlockBad, pixelsSize, contentsBad};
+ghost use Rattle.format.specs.SubBlock.{metadataPlace, pixelsPlace, attachmentPlace};
 ghost use Rattle.format.specs.Directory.{attachmentRows};
 ghost use Rattle.format.specs.Masks.{hasChunks};
 ghost use Rattle.format.specs.Records.{metadataSpan, pixelsSpan, attachmentSpan, maskOf, tileAt};
 ghost use Rattle.subblocks.specs.Judged.{Listed, Placed, CopyAgrees, Filled, Judged};
 
-// F, of a number of dimensions.
-fn fixed_part(n: u64) -> u64
-    requires { ⌜ n ≤ 16 ⌝ }
-    ensures { λ r. ⌜ r ≡ fixedPart n ⌝ }
+// ---- the fields of the sub-block at q
+
+// MetadataSize.
+fn metadata_size(s: &[u8], q: u64) -> u64
+    requires { ⌜ q + 48 ≤ length (now s) ⌝ }
+    ensures { λ r. ⌜ (r ≡ metadataSize (now (s .entry)) q) × (r < 2 ^ 32) ⌝ }
 {
-    let f = 48 + 20 * n;
+    fields::u32_at(s, q + 32)
+}
+
+// AttachmentSize.
+fn attachment_size(s: &[u8], q: u64) -> u64
+    requires { ⌜ q + 48 ≤ length (now s) ⌝ }
+    ensures { λ r. ⌜ (r ≡ attachmentSize (now (s .entry)) q) × (r < 2 ^ 32) ⌝ }
+{
+    fields::u32_at(s, q + 36)
+}
+
+// DataSize.
+fn data_size(s: &[u8], q: u64) -> u64
+    requires { ⌜ q + 48 ≤ length (now s) ⌝ }
+    ensures { λ r. ⌜ r ≡ dataSize (now (s .entry)) q ⌝ }
+{
+    fields::u64_at(s, q + 40)
+}
+
+// F of the entry at e.
+fn fixed_part(d: &[u8], e: u64) -> u64
+    requires { ⌜ (dimensionCount (now d) e ≤ 16) × (nextEntry (now d) e ≤ length (now d)) ⌝ }
+    ensures { λ r. ⌜ (r ≡ fixedPart (dimensionCount (now (d .entry)) e)) × (r ≤ 368) ⌝ }
+{
+    let f = 48 + 20 * entries::dimension_count(d, e);
     if f < 256 {
         return 256;
     }
     f
 }
+
+// ---- refusals 15 and 16
 
 // Whether the copy differs from the entry in a byte other than 23 to 27.
 fn copy_bad(d: &[u8], e: u64, s: &[u8], q: u64) -> bool
@@ -47,7 +76,7 @@ pub fn sub_block_bad(d: &[u8], e: u64, s: &[u8], q: u64) -> bool
     requires { ⌜ Placed (now d) e (now s) q ⌝ }
     ensures { λ r. ⌜ r ≡ subBlockBad (now (d .entry)) e (now (s .entry)) q ⌝ }
 {
-    if segments::room_at(s, q) < fixed_part(entries::dimension_count(d, e)) {
+    if segments::room_at(s, q) < fixed_part(d, e) {
         return true;
     }
     if copy_bad(d, e, s, q) {
@@ -63,7 +92,7 @@ fn is_pixels_size(d: &[u8], e: u64, size: u64) -> bool
 {
     let x = entries::stored_at(d, entries::letter_place(d, e, 88));
     let y = entries::stored_at(d, entries::letter_place(d, e, 89));
-    let bytes = entries::pixel_bytes(fields::u32_at(d, e + 2));
+    let bytes = entries::pixel_bytes(entries::pixel_type(d, e));
     fields::is_product(size, x, y, bytes)
 }
 
@@ -72,19 +101,19 @@ pub fn contents_bad(d: &[u8], e: u64, s: &[u8], q: u64) -> bool
     requires { ⌜ CopyAgrees (now d) e (now s) q ⌝ }
     ensures { λ r. ⌜ r ≡ contentsBad (now (d .entry)) e (now (s .entry)) q ⌝ }
 {
-    let metadata = fields::u32_at(s, q + 32);
+    let metadata = metadata_size(s, q);
     if 2147483648 <= metadata {
         return true;
     }
-    let attachment = fields::u32_at(s, q + 36);
+    let attachment = attachment_size(s, q);
     if 2147483648 <= attachment {
         return true;
     }
-    let data = fields::u64_at(s, q + 40);
+    let data = data_size(s, q);
     if 9223372036854775808 <= data {
         return true;
     }
-    let fixed = fixed_part(entries::dimension_count(d, e));
+    let fixed = fixed_part(d, e);
     if segments::room_at(s, q) < fixed + metadata + data + attachment {
         return true;
     }
@@ -94,12 +123,14 @@ pub fn contents_bad(d: &[u8], e: u64, s: &[u8], q: u64) -> bool
     false
 }
 
+// ---- where the parts lie
+
 // Where the metadata begins.
 fn metadata_place(d: &[u8], e: u64, s: &[u8], q: u64) -> u64
     requires { ⌜ CopyAgrees (now d) e (now s) q ⌝ }
     ensures { λ r. ⌜ r ≡ metadataPlace (now (d .entry)) e q ⌝ }
 {
-    q + 32 + fixed_part(entries::dimension_count(d, e))
+    q + 32 + fixed_part(d, e)
 }
 
 // Where the pixels begin.
@@ -107,7 +138,7 @@ pub fn pixels_place(d: &[u8], e: u64, s: &[u8], q: u64) -> u64
     requires { ⌜ Filled (now d) e (now s) q ⌝ }
     ensures { λ r. ⌜ r ≡ pixelsPlace (now (d .entry)) e (now (s .entry)) q ⌝ }
 {
-    metadata_place(d, e, s, q) + fields::u32_at(s, q + 32)
+    metadata_place(d, e, s, q) + metadata_size(s, q)
 }
 
 // Where the attachment begins.
@@ -115,7 +146,7 @@ fn attachment_place(d: &[u8], e: u64, s: &[u8], q: u64) -> u64
     requires { ⌜ Filled (now d) e (now s) q ⌝ }
     ensures { λ r. ⌜ r ≡ attachmentPlace (now (d .entry)) e (now (s .entry)) q ⌝ }
 {
-    pixels_place(d, e, s, q) + fields::u64_at(s, q + 40)
+    pixels_place(d, e, s, q) + data_size(s, q)
 }
 
 // The stretch of the metadata.
@@ -124,7 +155,7 @@ pub fn metadata_span(d: &[u8], e: u64, s: &[u8], q: u64) -> Span
     ensures { λ r. ⌜ r ≡ metadataSpan (now (d .entry)) e (now (s .entry)) q ⌝ }
 {
     let start = metadata_place(d, e, s, q);
-    let length = fields::u32_at(s, q + 32);
+    let length = metadata_size(s, q);
     Span { start, length }
 }
 
@@ -134,7 +165,7 @@ pub fn pixels_span(d: &[u8], e: u64, s: &[u8], q: u64) -> Span
     ensures { λ r. ⌜ r ≡ pixelsSpan (now (d .entry)) e (now (s .entry)) q ⌝ }
 {
     let start = pixels_place(d, e, s, q);
-    let length = fields::u64_at(s, q + 40);
+    let length = data_size(s, q);
     Span { start, length }
 }
 
@@ -144,16 +175,18 @@ pub fn attachment_span(d: &[u8], e: u64, s: &[u8], q: u64) -> Span
     ensures { λ r. ⌜ r ≡ attachmentSpan (now (d .entry)) e (now (s .entry)) q ⌝ }
 {
     let start = attachment_place(d, e, s, q);
-    let length = fields::u32_at(s, q + 36);
+    let length = attachment_size(s, q);
     Span { start, length }
 }
+
+// ---- the attachment's chunks
 
 // Whether the attachment is a chunk container: the metadata is searched for the marker.
 fn has_chunks(d: &[u8], e: u64, s: &[u8], q: u64) -> bool
     requires { ⌜ Filled (now d) e (now s) q ⌝ }
     ensures { λ r. ⌜ r ≡ hasChunks (now (d .entry)) e (now (s .entry)) q ⌝ }
 {
-    masks::is_container(s, metadata_place(d, e, s, q), fields::u32_at(s, q + 32))
+    masks::is_container(s, metadata_place(d, e, s, q), metadata_size(s, q))
 }
 
 // Refusals 17 and 18 of the attachment, whose metadata is searched only where there is one.
@@ -161,7 +194,7 @@ pub fn judge_attachment(d: &[u8], e: u64, s: &[u8], q: u64) -> Verdict
     requires { ⌜ Filled (now d) e (now s) q ⌝ }
     ensures { λ r. ⌜ r ≡ first (attachmentRows (now (d .entry)) e (now (s .entry)) q) ⌝ }
 {
-    let n = fields::u32_at(s, q + 36);
+    let n = attachment_size(s, q);
     if n == 0 {
         return Verdict::Accepted;
     }
@@ -177,7 +210,7 @@ pub fn mask_of(d: &[u8], e: u64, s: &[u8], q: u64) -> TileMask
     requires { ⌜ Judged (now d) e (now s) q ⌝ }
     ensures { λ r. ⌜ r ≡ maskOf (now (d .entry)) e (now (s .entry)) q ⌝ }
 {
-    let n = fields::u32_at(s, q + 36);
+    let n = attachment_size(s, q);
     if n == 0 {
         return TileMask::Unmasked;
     }
@@ -188,14 +221,19 @@ pub fn mask_of(d: &[u8], e: u64, s: &[u8], q: u64) -> TileMask
     masks::mask_in(s, a, a + n)
 }
 
+// ---- the tile record
+
 // The tile record of entry n.
 pub fn tile_at(n: u64, d: &[u8], e: u64, s: &[u8], q: u64) -> Tile
     requires { ⌜ Judged (now d) e (now s) q ⌝ }
     ensures { λ r. ⌜ r ≡ tileAt n (now (d .entry)) e (now (s .entry)) q ⌝ }
 {
-    let x = entries::extent_at(d, entries::letter_place(d, e, 88));
-    let y = entries::extent_at(d, entries::letter_place(d, e, 89));
+    let x = entries::letter_extent(d, e, 88);
+    let y = entries::letter_extent(d, e, 89);
     let m = entries::m_index_of(d, e);
+    let pixel_type = entries::pixel_type(d, e);
+    let pyramid = entries::pyramid_byte(d, e);
+    let dimensions = entries::dimension_count(d, e);
     let metadata = metadata_span(d, e, s, q);
     let pixels = pixels_span(d, e, s, q);
     let attachment = attachment_span(d, e, s, q);
@@ -203,10 +241,10 @@ pub fn tile_at(n: u64, d: &[u8], e: u64, s: &[u8], q: u64) -> Tile
     Tile {
         entry: n,
         place: e,
-        pixel_type: fields::u32_at(d, e + 2),
+        pixel_type,
         position: q,
-        pyramid: fields::byte_at(d, e + 22),
-        dimensions: entries::dimension_count(d, e),
+        pyramid,
+        dimensions,
         x,
         y,
         m,

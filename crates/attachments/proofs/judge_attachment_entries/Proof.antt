@@ -1,49 +1,37 @@
 -- `attachments::judge_attachment_entries` meets its contract.
-use Prim.Native.Nat.{_-_, _≤_}
-use mathlib.Core.Path.{_≡_, sym, _∙_}
+use Prim.Native.Nat.{_-_}
 use native.Mathlib.Omega.{arith}
 use borrow.Author.Needs.{needs}
-use Rattle.format.specs.Checks.{first, rowsBelow}
-use Rattle.format.specs.Attachments.{attachmentEntry, attachmentEntryRows}
-use Rattle.format.specs.declared.Verdict.the-variants.{Accepted}
-use Rattle.format.proofs.Firsts.{rows-zero, rows-more, rows-stop}
+use Rattle.format.specs.Attachments.{attachmentEntry}
+use Rattle.attachments.proofs.AttachmentLaws.{Entries, entry-within, entries-start, entries-next, entries-stop, entries-end}
 use Rattle.attachments.proofs.judge_attachment_entries.Statement.{statement}
 use Rattle.attachments.proofs.judge_attachment_entries.Tie as tie
 
-abbrev Inv-loop : tie.InvT-loop
-Inv-loop s table count t n k₀ k = (k ≤ n) × (first (rowsBelow k (λ j. attachmentEntryRows s (attachmentEntry t j))) ≡ Accepted)
-
-abbrev μ-loop : tie.MeasureT-loop
-μ-loop s table count t n k₀ k = n - k
-
-returns : tie.Need-returns Inv-loop μ-loop
+-- the place of an entry is below that of the directory's end
+attachment-entry-requires : tie.Need-attachment-entry-requires (λ s table count t n k₀ k. Entries s t n k) (λ s table count t n k₀ k. n - k)
 unfolding attachmentEntry
+attachment-entry-requires c κs = omega arith
+
+returns : tie.Need-returns (λ s table count t n k₀ k. Entries s t n k) (λ s table count t n k₀ k. n - k)
 returns c =
     let j = c .before .before .before in
-    let e = sym (j .judge-attachment-entry .ensures) ∙ c .before .v .given .1 in
-    sym (rows-stop _ _ _ _ _ (j .before .loop-test .taken) (j .before .before .loop .inv .1) e)
-
-loop-again : tie.Need-loop-again Inv-loop μ-loop
-unfolding attachmentEntry
-loop-again c =
-    let j = c .before .before in
-    (omega arith, rows-more _ _ (j .before .before .loop .inv .1) (sym (j .judge-attachment-entry .ensures) ∙ c .enum-told .given .1))
+    let k = j .before .before in
+    entries-stop _ _ _ _ (k .before .loop .inv) _ (j .before .attachment-entry .ensures) _ (j .judge-attachment-entry .ensures) (k .loop-test .taken)
+    _ _ (c .before .v .given .1)
 
 pub judge-attachment-entries-spec : {M : Type 1} → statement M
 judge-attachment-entries-spec =
     tie.close
     (tie.spec
-    Inv-loop
-    μ-loop
-    (λ c. (omega arith, rows-zero _))
-    (λ c. omega arith)
-    (λ c. omega arith)
-    (λ c. omega arith)
-    (λ c κs. search needs)
+    (λ s table count t n k₀ k. Entries s t n k)
+    (λ s table count t n k₀ k. n - k)
+    (λ c. entries-start _ _ _)
+    attachment-entry-requires
+    (λ c κs. search (needs, entry-within))
     (λ c. search needs)
     returns
     (λ c. search needs)
     (λ c. omega arith)
     (λ c. omega arith)
-    loop-again
-    (λ c. let e : c .before .loop .k ≡ c .before .before .before .args .n = omega arith in rw (← e) (sym (c .before .loop .inv .1))))
+    (λ c. search entries-next)
+    (λ c. entries-end _ _ _ _ (c .before .loop .inv) (c .loop-test .left)))

@@ -1,12 +1,11 @@
 -- `attachments::judge_attachments` meets its contract.
-use Prim.Native.Nat.{_+_, _*_, _≤_}
+use Prim.Native.Nat.{_≤_}
 use native.Mathlib.Omega.{arith}
 use denote.Ref.{now}
 use lib.ListN.{length}
 use borrow.Author.Tests.{eq-eqb, ne-eqb}
 use Rattle.format.specs.Segments.{RoomIn}
-use Rattle.format.specs.File.{attachmentDirectoryPosition}
-use Rattle.format.specs.Attachments.{attachmentEntryCount, attachmentDirectoryRows, attachmentsRows}
+use Rattle.format.specs.Attachments.{attachmentEntryCount, attachmentEntry, attachmentDirectoryRows, attachmentsRows}
 use Rattle.format.proofs.Flags.{flags, is-false}
 use Rattle.attachments.proofs.AttachmentLaws.{absent, present, named-room, entries-within}
 use borrow.Author.Needs.{needs}
@@ -14,36 +13,35 @@ use Rattle.attachments.proofs.judge_attachments.Statement.{statement}
 use Rattle.attachments.proofs.judge_attachments.Tie as tie
 
 -- the room of the directory lies in the file
-room-in : (c : tie.Else1) → RoomIn (now (c .before .before .before .args .s)) (c .before .u64-at .result)
-unfolding attachmentDirectoryPosition
-room-in c = named-room _ _ _ (c .before .u64-at .ensures) (c .before .before .before .pre .1 .1) (c .if1 .left)
+room-in : (c : tie.Else1) → RoomIn (now (c .before .before .before .args .s)) (c .before .attachment-directory-position .result)
+room-in c = named-room _ _ _ (c .before .attachment-directory-position .ensures) (c .before .before .before .pre .1 .1) (c .if1 .left)
 
 -- the entries of a directory that is not refused lie in the file
 within : (c : tie.Else2)
     → let u = c .before .before .before in
     let bs = now (u .before .before .args .s) in
-    u .u64-at .result + 288 + 128 * attachmentEntryCount bs (u .u64-at .result) ≤ length bs
+    attachmentEntry (u .attachment-directory-position .result) (attachmentEntryCount bs (u .attachment-directory-position .result)) ≤ length bs
 within c = entries-within _ _ (room-in (c .before .before)) (is-false _ _ (c .before .attachment-directory-bad .ensures) (c .if2 .left))
 
 returns-3 : tie.Need-returns-3
-unfolding attachmentsRows attachmentDirectoryPosition attachmentDirectoryRows attachmentEntryCount
+unfolding attachmentsRows attachmentDirectoryRows
 returns-3 c =
     let k = c .before .before in
     let l = k .before .before in
-    rw (← l .before .u64-at .ensures)
+    rw (← l .before .attachment-directory-position .ensures)
     (present _ _ _ (ne-eqb _ _ (l .if1 .left))
-    (rw (is-false _ _ (k .before .attachment-directory-bad .ensures) (k .if2 .left), ← c .before .u32-at .ensures .0) (c .judge-attachment-entries .ensures)))
+    (rw (is-false _ _ (k .before .attachment-directory-bad .ensures) (k .if2 .left), ← c .before .attachment-entry-count .ensures .0)
+    (c .judge-attachment-entries .ensures)))
 
 pub judge-attachments-spec : {M : Type 1} → statement M
-unfolding attachmentsRows attachmentDirectoryPosition attachmentDirectoryRows attachmentEntryCount
+unfolding attachmentsRows attachmentDirectoryRows attachmentEntry
 judge-attachments-spec =
     tie.close
     (tie.spec
     (λ c κs. search needs)
-    (λ c. rw (← c .before .u64-at .ensures) (absent _ _ (eq-eqb _ _ (c .if1 .taken))))
+    (λ c. rw (← c .before .attachment-directory-position .ensures) (absent _ _ (eq-eqb _ _ (c .if1 .taken))))
     (λ c κs. room-in c)
-    (λ c. rw (← c .before .before .before .u64-at .ensures) (present _ _ _ (ne-eqb _ _ (c .before .before .if1 .left)) (search flags depth 8)))
-    (λ c. omega (arith, within c))
+    (λ c. let k = c .before .before in rw (← k .before .attachment-directory-position .ensures) (present _ _ _ (ne-eqb _ _ (k .if1 .left)) (search flags depth 8)))
     (λ c κs. omega (arith, within c))
-    (λ c κs. (c .before .before .before .before .before .before .pre .0, rw (c .u32-at .ensures .0) (within (c .before))))
+    (λ c κs. (c .before .before .before .before .before .before .pre .0, rw (c .attachment-entry-count .ensures .0) (within (c .before))))
     returns-3)

@@ -1,34 +1,18 @@
 -- `directory::directory_bad` meets its contract.
-use Rattle.format.proofs.Flags.{flags}
-use Rattle.format.specs.Directory.{directoryBad, entryCount}
 use borrow.Author.Needs.{needs}
+use Rattle.format.proofs.Flags.{flags}
+use Rattle.format.specs.Directory.{directoryBad}
 use Rattle.directory.proofs.directory_bad.Statement.{statement}
 use Rattle.directory.proofs.directory_bad.Tie as tie
 
-returns : tie.Need-returns
-unfolding directoryBad
-returns c = search flags depth 8
-
-returns-2 : tie.Need-returns-2
-unfolding directoryBad entryCount
-returns-2 c = search flags depth 8
-
-returns-3 : tie.Need-returns-3
-unfolding directoryBad entryCount
-returns-3 c = search flags depth 8
-
-returns-4 : tie.Need-returns-4
-unfolding directoryBad entryCount
-returns-4 c = search flags depth 8
-
 pub directory-bad-spec : {M : Type 1} → statement M
+unfolding directoryBad
 directory-bad-spec =
     tie.close
     (tie.spec
     (λ c κs. search needs)
-    returns
-    (λ c. search needs)
+    (λ c. search flags depth 8)
     (λ c κs. search needs)
-    returns-2
-    returns-3
-    returns-4)
+    (λ c. search flags depth 8)
+    (λ c. search flags depth 8)
+    (λ c. search flags depth 8))

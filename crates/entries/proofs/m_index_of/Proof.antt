@@ -1,9 +1,8 @@
 -- `entries::m_index_of` meets its contract.
 use mathlib.Core.Path.{sym, _∙_}
-use native.Mathlib.Omega.{arith}
 use borrow.Author.Needs.{needs}
 use Rattle.format.specs.Records.{mIndexOf}
-use Rattle.entries.proofs.EntryLaws.{letter-placed}
+use Rattle.entries.proofs.EntryLaws.{letter-in}
 use Rattle.entries.proofs.ReadBack.{read-back}
 use Rattle.entries.proofs.m_index_of.Statement.{statement}
 use Rattle.entries.proofs.m_index_of.Tie as tie
@@ -15,7 +14,7 @@ m-index-of-spec =
     (tie.spec
     (λ c κs. search needs)
     (λ c κs. search needs)
-    (λ c κs. let p = letter-placed _ _ 77 (sym (c .before .before .holds-letter .ensures) ∙ c .before .if1 .taken) in omega (arith, p .within))
+    (λ c κs. search letter-in)
     (λ c κs. search needs)
     (λ c. rw (sym (c .before .before .before .before .holds-letter .ensures) ∙ c .before .before .before .if1 .taken) (cc (read-back _ (c .signed-of .ok))))
     (λ c. rw (sym (c .before .holds-letter .ensures) ∙ c .if1 .left)))

@@ -24,13 +24,12 @@ only-nan (fin s m e) h = absurd (clash h)
 
 returns : tie.Need-returns
 unfolding div ofBits ofFields odd
-returns c = only-nan (ofBits binary32 (c .before .args .bits)) (sym (nanBits-is binary32 (c .before .args .bits)) ∙ nanBits-above binary32 (c .before .args .bits) ∙ lt-ltb _ _ (c .if1 .taken))
+returns c =
+    let b = c .before .args .bits in
+    only-nan (ofBits binary32 b) (sym (nanBits-is binary32 b) ∙ nanBits-above binary32 b ∙ lt-ltb _ _ (c .if1 .taken))
 
 float-from-bits-result : tie.Need-float-from-bits-result
 float-from-bits-result c = rw (nanBits-above binary32 (c .before .args .bits), le-ltb 2139095040 (c .before .args .bits % 2147483648) (c .if1 .left)) tt
 
-returns-2 : tie.Need-returns-2
-returns-2 c = search needs
-
 pub float-of-spec : {M : Type 1} → statement M
-float-of-spec = tie.close (tie.spec returns float-from-bits-result returns-2)
+float-of-spec = tie.close (tie.spec returns float-from-bits-result (λ c. search needs))

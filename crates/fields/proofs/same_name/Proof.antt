@@ -6,38 +6,26 @@ use borrow.Author.Needs.{needs}
 use Rattle.fields.proofs.same_name.Statement.{statement}
 use Rattle.fields.proofs.same_name.Tie as tie
 
-u64-at-requires : tie.Need-u64-at-requires
-u64-at-requires c κs = search needs
-
-u64-at-requires-2 : tie.Need-u64-at-requires-2
-u64-at-requires-2 c κs = search needs
-
 returns : tie.Need-returns
 returns c =
     let u = c .before .before .u64-at .ensures in
     let v = c .before .u64-at2 .ensures in
     low-differs _ _ _ (c .before .before .before .before .before .pre .1) (λ e. c .if1 .taken (u ∙ (e ∙ sym v)))
 
-add-u64-at : tie.Need-add-u64-at
-add-u64-at c = search needs
-
-u64-at-requires-3 : tie.Need-u64-at-requires-3
-u64-at-requires-3 c κs = search needs
-
-u64-at-requires-4 : tie.Need-u64-at-requires-4
-u64-at-requires-4 c κs = search needs
-
 returns-2 : tie.Need-returns-2
 returns-2 c =
     let u = c .before .before .u64-at3 .ensures in
     let v = c .before .u64-at4 .ensures in
-    high-differs _ _ _ (c .before .before .before .before .before .before .before .before .pre .1) (λ e. c .if2 .taken (u ∙ (e ∙ sym v)))
+    let low = c .before .before .before in
+    high-differs _ _ _ (low .before .before .before .before .before .pre .1) (λ e. c .if2 .taken (u ∙ (e ∙ sym v)))
 
 returns-3 : tie.Need-returns-3
 returns-3 c =
     let low = c .before .before .before in
     let name = low .before .before .before in
-    words-agree _ _ _ (c .before .before .before .before .before .before .before .before .pre .1) (λ i. omega (arith, name .before .shared-slice-known .given i)) (λ i. omega (arith, name .shared-slice-known2 .given i))
+    words-agree _ _ _ (name .before .before .pre .1)
+    (λ i. omega (arith, name .before .shared-slice-known .given i))
+    (λ i. omega (arith, name .shared-slice-known2 .given i))
     (sym (low .before .before .u64-at .ensures) ∙ (low .if1 .left ∙ low .before .u64-at2 .ensures))
     (sym (c .before .before .u64-at3 .ensures) ∙ (c .if2 .left ∙ c .before .u64-at4 .ensures))
 
@@ -45,11 +33,11 @@ pub same-name-spec : {M : Type 1} → statement M
 same-name-spec =
     tie.close
     (tie.spec
-    u64-at-requires
-    u64-at-requires-2
+    (λ c κs. search needs)
+    (λ c κs. search needs)
     returns
-    add-u64-at
-    u64-at-requires-3
-    u64-at-requires-4
+    (λ c. search needs)
+    (λ c κs. search needs)
+    (λ c κs. search needs)
     returns-2
     returns-3)

@@ -5,7 +5,6 @@ use mathlib.Core.List.{List}
 use mathlib.Core.Bool.{Bool}
 use Rattle.format.proofs.Flags.{cond-true, cond-false, not-is-true, not-is-false, eq-yes, eq-no}
 use Rattle.format.specs.Names.{nameDirectory, nameMetadata, nameAttachmentDirectory}
-use Rattle.format.specs.File.{major, filePart, updatePending, directoryPosition, metadataPosition, attachmentDirectoryPosition}
 use Rattle.format.specs.File.{namesNone, namesNoneBut0, fileRows}
 use borrow.Author.Needs.{needs}
 use Rattle.judge.proofs.judge_file.Statement.{statement}
@@ -22,8 +21,7 @@ module _ (bs : List ℕ) (p q : ℕ) (name : List ℕ) (r v : Bool) (e : p ≡ q
 ruleset tests = (cond-true, cond-false, not-is-true, not-is-false, eq-yes, eq-no, names-is, names-but-0-is, refl)
 
 pub judge-file-spec : {M : Type 1} → statement M
-unfolding fileRows major filePart updatePending directoryPosition metadataPosition attachmentDirectoryPosition
-    nameDirectory nameMetadata nameAttachmentDirectory
+unfolding fileRows nameDirectory nameMetadata nameAttachmentDirectory
 judge-file-spec =
     tie.close
     (tie.spec

@@ -7,7 +7,19 @@ use Rattle.listing.proofs.bounds_of.Tie as tie
 returns : tie.Need-returns
 unfolding boundsOf
 returns c =
-    rw (c .before .before .before .before .if1 .taken, read-back (c .before .before .before .unshifted .result) (c .before .before .before .unshifted .ok), read-back (c .before .before .unshifted2 .result) (c .before .before .unshifted2 .ok), read-back (c .before .unshifted3 .result) (c .before .unshifted3 .ok), read-back (c .unshifted4 .result) (c .unshifted4 .ok), c .before .before .before .unshifted .ensures, c .before .before .unshifted2 .ensures, c .before .unshifted3 .ensures, c .unshifted4 .ensures)
+    let a = c .before .before .before in
+    let b = c .before .before in
+    rw (
+      a .before .if1 .taken,
+      read-back (a .unshifted .result) (a .unshifted .ok),
+      read-back (b .unshifted2 .result) (b .unshifted2 .ok),
+      read-back (c .before .unshifted3 .result) (c .before .unshifted3 .ok),
+      read-back (c .unshifted4 .result) (c .unshifted4 .ok),
+      a .unshifted .ensures,
+      b .unshifted2 .ensures,
+      c .before .unshifted3 .ensures,
+      c .unshifted4 .ensures,
+    )
 
 returns-2 : tie.Need-returns-2
 unfolding boundsOf

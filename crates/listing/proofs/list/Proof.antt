@@ -1,18 +1,20 @@
 -- `listing::list` meets its contract.
+use borrow.Author.Needs.{needs}
 use Rattle.format.proofs.Answering.{accepted}
 use Rattle.listing.proofs.Texts.{figures-held, listing-long, listing-refused, listing-accepted}
-use borrow.Author.Needs.{needs}
 use Rattle.listing.proofs.list.Statement.{statement}
 use Rattle.listing.proofs.list.Tie as tie
 
-figures-text-requires : tie.Need-figures-text-requires
-figures-text-requires c κs = figures-held _ _ (c .figures-of .ensures) (accepted (c .before .before .before .judge .ensures) (c .before .enum-told .given .1))
-
 returns-2 : tie.Need-returns-2
-returns-2 c = listing-refused _ _ _ _ _ (c .before .before .before .before .before .if1 .left) (c .before .before .before .before .judge .ensures .answer-is) (c .before .before .v .given .1) (c .refusal-text2 .ensures)
+returns-2 c =
+    let j = c .before .before .before .before in
+    listing-refused _ _ _ _ _ (j .before .if1 .left) (j .judge .ensures .answer-is) (c .before .before .v .given .1) (c .refusal-text2 .ensures)
 
 returns-3 : tie.Need-returns-3
-returns-3 c = listing-accepted _ _ _ (c .before .before .before .before .before .if1 .left) (accepted (c .before .before .before .before .judge .ensures) (c .before .before .enum-told .given .1)) (c .before .figures-of .ensures) (c .figures-text .ensures)
+returns-3 c =
+    let j = c .before .before .before .before in
+    let a = accepted (j .judge .ensures) (c .before .before .enum-told .given .1) in
+    listing-accepted _ _ _ (j .before .if1 .left) a (c .before .figures-of .ensures) (c .figures-text .ensures)
 
 pub list-spec : {M : Type 1} → statement M
 list-spec =
@@ -24,7 +26,7 @@ list-spec =
     (λ c. search needs)
     (λ c κs. search needs)
     (λ c. search needs)
-    (λ c κs. accepted (c .before .before .judge .ensures) (c .enum-told .given .1))
-    figures-text-requires
+    (λ c κs. search accepted)
+    (λ c κs. search (figures-held, accepted))
     returns-2
     returns-3)

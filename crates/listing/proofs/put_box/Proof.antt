@@ -7,7 +7,9 @@ use Rattle.listing.proofs.put_box.Tie as tie
 
 returns : tie.Need-returns
 unfolding line nameBox
-returns c = appended-both _ _ _ _ _ (appended-both _ _ _ _ _ (c .before .before .put .ensures) (c .before .put-corners .ensures .0)) (c .push .ensures)
+returns c =
+    let named = appended-both _ _ _ _ _ (c .before .before .put .ensures) (c .before .put-corners .ensures .0) in
+    appended-both _ _ _ _ _ named (c .push .ensures)
 
 pub put-box-spec : {M : Type 1} → statement M
 put-box-spec =

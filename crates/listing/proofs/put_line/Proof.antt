@@ -8,14 +8,19 @@ use Rattle.listing.proofs.put_line.Statement.{statement}
 use Rattle.listing.proofs.put_line.Tie as tie
 
 push-requires : tie.Need-push-requires
-push-requires c κs = (c .put-decimal .ensures .clean, omega (arith, c .put-decimal .ensures .length-is, c .before .put .ensures .length-is, decimal-most (c .before .before .before .args .x), c .before .before .before .pre .1))
+push-requires c κs =
+    let k = c .before .before .before in
+    let d = c .put-decimal .ensures in
+    (d .clean, omega (arith, d .length-is, c .before .put .ensures .length-is, decimal-most (k .args .x), k .pre .1))
 
 returns : tie.Need-returns
 unfolding line
-returns c = (
-  appended-both _ _ _ _ _ (appended-both _ _ _ _ _ (c .before .before .put .ensures) (c .before .put-decimal .ensures)) (c .push .ensures),
-  omega (arith, c .push .ensures .length-is, c .before .put-decimal .ensures .length-is, c .before .before .put .ensures .length-is, decimal-most (c .before .before .before .before .args .x)),
-)
+returns c =
+    let p = c .before .before .put .ensures in
+    let d = c .before .put-decimal .ensures in (
+      appended-both _ _ _ _ _ (appended-both _ _ _ _ _ p d) (c .push .ensures),
+      omega (arith, c .push .ensures .length-is, d .length-is, p .length-is, decimal-most (c .before .before .before .before .args .x)),
+    )
 
 pub put-line-spec : {M : Type 1} → statement M
 put-line-spec = tie.close (tie.spec (λ c κs. search needs) (λ c κs. search needs) push-requires returns)

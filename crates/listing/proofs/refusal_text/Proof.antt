@@ -8,14 +8,23 @@ use Rattle.listing.proofs.refusal_text.Statement.{statement}
 use Rattle.listing.proofs.refusal_text.Tie as tie
 
 put-line-requires : tie.Need-put-line-requires
-put-line-requires c κs = (c .before .empty .ensures .0, let z = empty-length _ (c .before .empty .ensures .0) (c .before .empty .ensures .1) in omega arith)
+put-line-requires c κs =
+    let e = c .before .empty .ensures in
+    let z = empty-length _ (e .0) (e .1) in
+    (e .0, omega arith)
 
 put-line-requires-2 : tie.Need-put-line-requires-2
-put-line-requires-2 c κs = (c .before .put-line .ensures .0 .clean, let z = empty-length _ (c .before .before .before .empty .ensures .0) (c .before .before .before .empty .ensures .1) in omega (arith, c .before .put-line .ensures .1))
+put-line-requires-2 c κs =
+    let l = c .before .put-line .ensures in
+    let e = c .before .before .before .empty .ensures in
+    let z = empty-length _ (e .0) (e .1) in
+    (l .0 .clean, omega (arith, l .1))
 
 returns : tie.Need-returns
 unfolding refusalText nameRefused namePlace
-returns c = says _ _ _ (c .before .before .before .before .empty .ensures .1) (appended-both _ _ _ _ _ (c .before .before .put-line .ensures .0) (c .put-line2 .ensures .0))
+returns c =
+    let b = c .before .before in
+    says _ _ _ (b .before .before .empty .ensures .1) (appended-both _ _ _ _ _ (b .put-line .ensures .0) (c .put-line2 .ensures .0))
 
 pub refusal-text-spec : {M : Type 1} → statement M
 refusal-text-spec =

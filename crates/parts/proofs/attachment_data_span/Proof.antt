@@ -11,7 +11,9 @@ returns c = search span-refused
 
 returns-2 : tie.Need-returns-2
 unfolding attachmentData
-returns-2 c = span-found (c .before .before .before .before .attachment-refusal .ensures) (c .before .before .enum-told .given .1) (rw (← c .before .attachment-position .ensures) (c .data-span .ensures))
+returns-2 c =
+    let k = c .before .before in
+    span-found (k .before .before .attachment-refusal .ensures) (k .enum-told .given .1) (rw (← c .before .attachment-at .ensures) (c .data-span .ensures))
 
 pub attachment-data-span-spec : {M : Type 1} → statement M
 attachment-data-span-spec =

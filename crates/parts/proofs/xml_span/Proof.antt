@@ -1,43 +1,22 @@
 -- `parts::xml_span` meets its contract.
 use native.Mathlib.Omega.{arith}
-use mathlib.Core.Path.{_∙_}
-use borrow.Author.Tests.{eq-eqb, ne-eqb}
-use Rattle.format.specs.File.{metadataPosition}
-use Rattle.format.specs.Attachments.{xmlSize}
-use Rattle.format.specs.Records.{xmlSpan}
-use Rattle.judge.proofs.AcceptedFile.{tiled, described}
 use borrow.Author.Needs.{needs}
+use Rattle.format.proofs.Flags.{flags}
+use borrow.Author.Tests.{ne-eqb}
+use Rattle.format.specs.Records.{xmlSpan}
+use Rattle.judge.proofs.AcceptedFile.{accepted-long}
+use Rattle.parts.proofs.Numbered.{xml-in}
 use Rattle.parts.proofs.xml_span.Statement.{statement}
 use Rattle.parts.proofs.xml_span.Tie as tie
 
-returns : tie.Need-returns
-unfolding xmlSpan metadataPosition
-returns c = rw (← c .before .before .u64-at .ensures, eq-eqb _ _ (c .before .if1 .taken)) (c .nothing .ensures)
-
-add-start : tie.Need-add-start
-unfolding metadataPosition
-add-start c = let e = c .before .u64-at .ensures in let d = described _ (c .before .before .before .pre) (λ z. c .if1 .left (e ∙ z)) in omega (arith, d .room-in, d .fits, tiled _ (c .before .before .before .pre) .small)
-
-add-u32-at : tie.Need-add-u32-at
-unfolding metadataPosition
-add-u32-at c = let e = c .before .u64-at .ensures in let d = described _ (c .before .before .before .pre) (λ z. c .if1 .left (e ∙ z)) in omega (arith, d .room-in, d .fits, tiled _ (c .before .before .before .pre) .small)
-
-u32-at-requires : tie.Need-u32-at-requires
-unfolding metadataPosition
-u32-at-requires c κs = let e = c .before .u64-at .ensures in let d = described _ (c .before .before .before .pre) (λ z. c .if1 .left (e ∙ z)) in omega (arith, d .room-in, d .fits, tiled _ (c .before .before .before .pre) .small)
-
-returns-2 : tie.Need-returns-2
-unfolding xmlSpan metadataPosition xmlSize
-returns-2 c = rw (← c .before .before .u64-at .ensures, ne-eqb _ _ (c .before .if1 .left), ← c .u32-at .ensures .0)
-
 pub xml-span-spec : {M : Type 1} → statement M
+unfolding xmlSpan
 xml-span-spec =
     tie.close
     (tie.spec
-    (λ c κs. omega (arith, tiled _ (c .before .pre) .long))
+    (λ c κs. search accepted-long)
     (λ c κs. search needs)
-    returns
-    add-start
-    add-u32-at
-    u32-at-requires
-    returns-2)
+    (λ c. rw (← c .before .before .metadata-position .ensures) (search flags depth 8))
+    (λ c. omega (arith, xml-in _ (c .before .before .before .pre) _ (c .before .metadata-position .ensures) (c .if1 .left)))
+    (λ c κs. omega (arith, xml-in _ (c .before .before .before .pre) _ (c .before .metadata-position .ensures) (c .if1 .left)))
+    (λ c. rw (← c .before .before .metadata-position .ensures, ne-eqb _ _ (c .before .if1 .left), ← c .xml-size .ensures .0)))

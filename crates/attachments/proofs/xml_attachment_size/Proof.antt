@@ -1,0 +1,9 @@
+-- `attachments::xml_attachment_size` meets its contract.
+use borrow.Author.Needs.{needs}
+use Rattle.format.specs.Attachments.{xmlAttachmentSize}
+use Rattle.attachments.proofs.xml_attachment_size.Statement.{statement}
+use Rattle.attachments.proofs.xml_attachment_size.Tie as tie
+
+pub xml-attachment-size-spec : {M : Type 1} → statement M
+unfolding xmlAttachmentSize
+xml-attachment-size-spec = tie.close (tie.spec (λ c. search needs) (λ c κs. search needs) (λ c. search needs))
