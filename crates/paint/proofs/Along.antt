@@ -25,7 +25,7 @@ pub record Along (d m s line : List ℕ) (row : Row) (i j k : ℕ) (d′ m′ : 
 pub along-start : {d m s line : List ℕ} {row : Row} {i j : ℕ} → RowRoom d m s line row j → i ≤ j → Bytes m → Along d m s line row i j i d m 0
 along-start r l h = record { room = r; bytes = h; low = omega arith; high = l; painted = span-left (r .bytes) h (λ p a c. absurd (omega arith)) }
 
-module _ {d m s line : List ℕ} {row : Row} {i j k : ℕ} {d₁ m₁ : List ℕ} {g : ℕ} (o : Along d m s line row i j k d₁ m₁ g) where
+module _ {d m s line d₁ m₁ : List ℕ} {row : Row} {i j k g : ℕ} (o : Along d m s line row i j k d₁ m₁ g) where
   -- the room that is left
   pub along-less : {e : ℕ} → e ≤ j → RowRoom d₁ m₁ s line row e
   along-less l = room-less (o .room) l (span-target (o .painted)) (span-map (o .painted))
@@ -52,8 +52,8 @@ module _ {d m s line : List ℕ} {row : Row} {i j k : ℕ} {d₁ m₁ : List ℕ
     }
 
   -- all the pixels that have a column in the mask are painted: those behind them are left
-  pub along-masked : {z : ℕ} → j ≤ k → j ≤ z → row .first + z ≤ 8 * length m → row .masked ≡ true → (j < z → row .columns ≤ row .column + j)
-      → SpanPainted d m s line row i z d₁ m₁ g
+  pub along-masked : {z : ℕ} → j ≤ k → j ≤ z → row .first + z ≤ 8 * length m → row .masked ≡ true
+      → (j < z → row .columns ≤ row .column + j) → SpanPainted d m s line row i z d₁ m₁ g
   along-masked {z} l h b e f =
       subst (SpanPainted d m s line row i z d₁ m₁) {x = g + 0} {y = g} (omega arith)
       (span-then (o .room .bytes) (o .bytes) (o .low) (omega arith) b (o .painted)

@@ -10,8 +10,8 @@ use Rattle.runs.specs.Run.{Run}
 use Rattle.paint.specs.declared.Row.{Row}
 use Rattle.paint.specs.RowPainting.{RowRoom, SpanRoom, SpanBytes}
 
-pub room-less : {d m s line : List ℕ} {row : Row} {n : ℕ} → RowRoom d m s line row n → {d′ m′ : List ℕ} {j : ℕ} → j ≤ n → length d′ ≡ length d
-    → length m′ ≡ length m → RowRoom d′ m′ s line row j
+pub room-less : {d m s line : List ℕ} {row : Row} {n : ℕ} → RowRoom d m s line row n → {d′ m′ : List ℕ} {j : ℕ} → j ≤ n
+    → length d′ ≡ length d → length m′ ≡ length m → RowRoom d′ m′ s line row j
 room-less {row = row} r l e f =
     let h = mul-le-mul-right (row .bytes) l in
     record { bytes = r .bytes; target = omega arith; source = omega arith; bits = omega arith; mask = r .mask; columns = omega arith; number = omega arith }

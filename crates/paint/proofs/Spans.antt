@@ -39,7 +39,7 @@ left-sets true true false e = e
 left-sets false true false e = e
 
 -- ---- read off a span that is painted
-module _ {d m s line : List ℕ} {row : Row} {i j : ℕ} {d′ m′ : List ℕ} {g : ℕ} (o : SpanPainted d m s line row i j d′ m′ g) where
+module _ {d m s line d′ m′ : List ℕ} {row : Row} {i j g : ℕ} (o : SpanPainted d m s line row i j d′ m′ g) where
   pub span-given : g ≤ j - i
   span-given = rw (o .given) (count-le (j - i) (λ k. rowGives m line row (i + k)))
 
@@ -121,5 +121,6 @@ module _ {d m s line : List ℕ} {row : Row} (hb : 1 ≤ row .bytes) where
 first-on : (p : ℕ) → leb 0 p ≡ true
 first-on p = le-leb 0 p (omega arith)
 
-pub span-row : {d m s line : List ℕ} {row : Row} {n : ℕ} {d′ m′ : List ℕ} {r : ℕ} → SpanPainted d m s line row 0 n d′ m′ r → RowPainted d m s line row n d′ m′ r
+pub span-row : {d m s line d′ m′ : List ℕ} {row : Row} {n r : ℕ} → SpanPainted d m s line row 0 n d′ m′ r
+    → RowPainted d m s line row n d′ m′ r
 span-row o = record { target = simp first-on at (o .target); map = simp add-zero at (o .map); given = simp (sub-zero, zero-add) at (o .given) }

@@ -28,12 +28,13 @@ pub open-plain : (m : List ℕ) (row : Row) (i j : ℕ) → row .quick ≡ false
 open-plain m row i j e q = absurd (true≢false (sym q ∙ e))
 
 -- they stay open while those before them are painted
-pub open-behind : {d m s line : List ℕ} {row : Row} {i k : ℕ} {d′ m′ : List ℕ} {g : ℕ} → SpanPainted d m s line row i k d′ m′ g
+pub open-behind : {d m s line d′ m′ : List ℕ} {row : Row} {i k g : ℕ} → SpanPainted d m s line row i k d′ m′ g
     → {j e : ℕ} → Open m row i j → i ≤ k → e ≤ j → row .first + j ≤ 8 * length m → Open m′ row k e
 open-behind o f a c l t p u h = span-behind o p u (omega arith) ∙ f t p (omega arith) (omega arith)
 
 -- a plain turn gives what is valid, by a test's answer r
-pub plain-gives : (m line : List ℕ) (row : Row) (i : ℕ) {r : Bool} → r ≡ validAt line row i → r ≡ true → row .quick ≡ false → true ≡ rowGives m line row i
+pub plain-gives : (m line : List ℕ) (row : Row) (i : ℕ) {r : Bool} → r ≡ validAt line row i → r ≡ true → row .quick ≡ false
+    → true ≡ rowGives m line row i
 plain-gives m line row i e t q = rw (← e, t, q)
 
 -- what is open and valid is given
@@ -48,7 +49,8 @@ module _ {d m s line : List ℕ} {row : Row} {i : ℕ} (hb : 1 ≤ row .bytes) w
   pixel-left h e f = span-left hb h (λ p l r. ap (rowGives m line row) (omega arith) ∙ sym e ∙ f)
 
   pub pixel-given : {a : ℕ} → a ≡ i * row .bytes → {t : Bool} → t ≡ rowGives m line row i → t ≡ true → {d′ m′ : List ℕ}
-      → d′ ≡ copied d s a (a + row .bytes) → m′ ≡ mark (row .first + i + 1) (λ q. leb (row .first + i) q) m → SpanPainted d m s line row i (i + 1) d′ m′ 1
+      → d′ ≡ copied d s a (a + row .bytes) → m′ ≡ mark (row .first + i + 1) (λ q. leb (row .first + i) q) m
+      → SpanPainted d m s line row i (i + 1) d′ m′ 1
   pixel-given z e f {d′} {m′} c g =
       subst (SpanPainted d m s line row i (i + 1) d′ m′) {x = i + 1 - i} {y = 1} (omega arith)
       (span-all hb (λ p l r. ap (rowGives m line row) (omega arith) ∙ sym e ∙ f)
@@ -76,8 +78,8 @@ module _ {d m s line : List ℕ} {row : Row} {i : ℕ} (hb : 1 ≤ row .bytes) w
         valid p a c = rw (lt-ltb (row .column + p) (row .columns) (omega arith), within (row .column) i r p a c) (or-true (not (row .masked)))
 
     -- a run of columns that are not
-    pub step-invalid : Bytes m → row .masked ≡ true → {o : ℕ} → Run (bit line) (row .column + i) (row .column + j) false o → 8 ≤ o - (row .column + i)
-        → Stepped d m s line row i j d m (o - row .column) 0
+    pub step-invalid : Bytes m → row .masked ≡ true → {o : ℕ} → Run (bit line) (row .column + i) (row .column + j) false o
+        → 8 ≤ o - (row .column + i) → Stepped d m s line row i j d m (o - row .column) 0
     step-invalid h e r l =
         run-step (row .column) r l (span-left hb h (λ p a c. rw (e, within (row .column) i r p a c, and-false (ltb (row .column + p) (row .columns)))))
 

@@ -35,10 +35,6 @@ pixels src from row n = midOf from (from + n * row .bytes - from) src
 abbrev lineFrom : List ℕ → ℕ → List ℕ
 lineFrom lines line = midOf line (length lines - line) lines
 
--- a place in the row, by its distance from the row's first pixel
-apart : (f i b q : ℕ) → (f + i) * b + q ≡ f * b + (i * b + q)
-apart f i b q = omega arith
-
 module _ {t m src : List ℕ} {from : ℕ} {lines : List ℕ} {line : ℕ} {row : Row} {n : ℕ} (h : StretchRoom t m src from lines line row n) where
   -- what the row painter asks of them
   pub stretch-room : length t < 2 ^ 64 → RowRoom (stretch t row n) m (pixels src from row n) (lineFrom lines line) row n
@@ -79,7 +75,7 @@ module _ {t m src : List ℕ} {from : ℕ} {lines : List ℕ} {line : ℕ} {row 
           ∙ rw (lt-leb (row .first) p e, and-false (ltb p (row .first + n))))
           (λ e f.
           let i = p - row .first in
-          let place : p * b + q ≡ begin row + (i * b + q) = ap (λ (z : ℕ). z * b + q) (sym (add-sub-of-le e)) ∙ apart (row .first) i b q in
+          let place : p * b + q ≡ begin row + (i * b + q) = ap (λ (z : ℕ). z * b + q) (sym (add-sub-of-le e)) ∙ omega arith in
           let small : i * b + q < n * b = digits-lt (omega arith) hq in
           rw (lt-ltb p (row .first + n) f, le-leb (row .first) p e, place)
           (put-in (begin row) (end row n) t ys (omega arith) (omega arith) l (i * b + q) (omega arith)
@@ -88,4 +84,5 @@ module _ {t m src : List ℕ} {from : ℕ} {lines : List ℕ} {line : ℕ} {row 
           ∙ ap₂ (cond (rowGives m (drop line lines) row i))
           (mid-at from (from + n * b) src (i * b + q) (omega arith) ∙ ap (λ (z : ℕ). getD src z 0) (sym (add-assoc from (i * b) q)))
           (mid-at (begin row) (end row n) t (i * b + q) (omega arith))))
-          (λ e. put-past (begin row) (end row n) t ys (omega arith) (omega arith) l _ (omega (arith, mul-le-mul-right b e)) ∙ rw (le-ltb p (row .first + n) e))
+          (λ e. put-past (begin row) (end row n) t ys (omega arith) (omega arith) l _ (omega (arith, mul-le-mul-right b e))
+          ∙ rw (le-ltb p (row .first + n) e))

@@ -72,8 +72,8 @@ module _ {k : Mask} {r : ℕ} where
   pub line-off : k .on ≡ false → LineOf k r (record { start = 0; width = 0 })
   line-off e = record { start = rw e; width = rw e }
 
-pub valid-line : (k : Mask) (lines : List ℕ) (r : ℕ) (l : MaskLine) → LineOf k r l → (row : Row) → row .masked ≡ k .on → row .columns ≡ l .width → (i : ℕ)
-    → validAt (drop (l .start) lines) row i ≡ validIn k lines (row .column + i) r
+pub valid-line : (k : Mask) (lines : List ℕ) (r : ℕ) (l : MaskLine) → LineOf k r l → (row : Row) → row .masked ≡ k .on → row .columns ≡ l .width
+    → (i : ℕ) → validAt (drop (l .start) lines) row i ≡ validIn k lines (row .column + i) r
 unfolding validIn bit
 valid-line k lines r l e row m c i =
     by-bool (k .on)
@@ -82,8 +82,8 @@ valid-line k lines r l e row m c i =
     (λ h. rw (m, c, e .start, e .width, o, h, le-ltb (row .column + i) 0 (omega arith))))
     (λ o. rw (m, o))
 
-pub line-room : (lines : List ℕ) {k : Mask} {r : ℕ} {l : MaskLine} → LineOf k r l → k .width ≤ 8 * k .stride → k .height * k .stride ≤ length lines
-    → (l .start ≤ length lines) × (l .width ≤ 8 * (length lines - l .start))
+pub line-room : (lines : List ℕ) {k : Mask} {r : ℕ} {l : MaskLine} → LineOf k r l → k .width ≤ 8 * k .stride
+    → k .height * k .stride ≤ length lines → (l .start ≤ length lines) × (l .width ≤ 8 * (length lines - l .start))
 line-room lines {k} {r} f e h =
     by-bool (k .on)
     (λ o. by-cases (decLt r (k .height))

@@ -56,20 +56,17 @@ rowAt w b k q x col y e = record { first = y * w .width + col; bytes = b; masked
 ends : (z v x n s b r : ℕ) → z + v ≤ s → x + n ≤ v → s * b ≤ r → (z + x) * b + n * b ≤ r
 ends z v x n s b r e c f = let g : z + x + n ≤ s = omega arith in omega (arith, mul-le-mul-right b g)
 
--- a pixel's number in the source, times its bytes
-spread : (z x i b j : ℕ) → (z + x) * b + i * b + j ≡ (z + (x + i)) * b + j
-spread z x i b j = omega arith
-
-turned : {t₀ m₀ : List ℕ} {w a : Rect} {src : List ℕ} {b : ℕ} {k : Mask} {lines : List ℕ} {q : Bool} {t m : List ℕ} {g : ℕ}
+turned : {t₀ m₀ t m src lines : List ℕ} {w a : Rect} {b g : ℕ} {k : Mask} {q : Bool}
     → Done b (gives w a k lines q m₀) (tileByte w a b src) t₀ m₀ (area w) t m g → Turned t₀ m₀ w a src b k lines q t m g
 unfolding tileOf tileGives tileByte
-turned {w = w} {a} {src} {b} {k} {lines} {q} d = record { turned = λ rank stored. done-all q w b (tileOf rank a b src k lines) stored d }
+turned {src = src} {lines} {w} {a} {b} {k = k} {q} d = record { turned = λ rank stored. done-all q w b (tileOf rank a b src k lines) stored d }
 
 -- ---- before the first row, or where there is none
-module _ {t₀ m₀ : List ℕ} {w a : Rect} {src : List ℕ} {b : ℕ} {k : Mask} {lines : List ℕ} (q : Bool) (c : Clip)
+module _ {t₀ m₀ src lines : List ℕ} {w a : Rect} {b : ℕ} {k : Mask} (q : Bool) (c : Clip)
     (r : TurnRoom t₀ m₀ w a src b k lines) (h : Bytes m₀) (e : Clipped w a c) where
   -- no pixel before number n is the tile's
-  none : (n : ℕ) → ((p : ℕ) → p < n → Inside a (colOf w p) (rowOf w p) → ⊥) → Done b (gives w a k lines q m₀) (tileByte w a b src) t₀ m₀ n t₀ m₀ 0
+  none : (n : ℕ) → ((p : ℕ) → p < n → Inside a (colOf w p) (rowOf w p) → ⊥)
+      → Done b (gives w a k lines q m₀) (tileByte w a b src) t₀ m₀ n t₀ m₀ 0
   none n f = done-none (r .room .bytes) h n (λ p l. rw (off w a k lines p (f p l)))
 
   pub rows-beside : c .right ≤ c .left → Turned t₀ m₀ w a src b k lines q t₀ m₀ 0
@@ -97,7 +94,7 @@ module _ {t₀ m₀ : List ℕ} {w a : Rect} {src : List ℕ} {b : ℕ} {k : Mas
     done = none ((c .top - w .top) * w .width) (λ p z i. omega (arith, div-lt-iff-lt-mul (r .room .wide) .1 z));
   }
 
-module _ {t₀ m₀ : List ℕ} {w a : Rect} {src : List ℕ} {b : ℕ} {k : Mask} {lines : List ℕ} {q : Bool} {n x col stop y : ℕ} {t m : List ℕ} {g : ℕ}
+module _ {t₀ m₀ src lines t m : List ℕ} {w a : Rect} {b n x col stop y g : ℕ} {k : Mask} {q : Bool}
     (o : Rows t₀ m₀ w a src b k lines q n x col stop y t m g) where
   pub rows-target : length t ≡ length t₀
   rows-target = ap length (o .done .target) ∙ paint-length (y * w .width) b _ _ t₀
@@ -189,17 +186,19 @@ module _ {t₀ m₀ : List ℕ} {w a : Rect} {src : List ℕ} {b : ℕ} {k : Mas
           valid p h i =
               let z = at p h i in
               ap (λ (v : Bool). givesPixel q v (bit m₀ p))
-              (here w a k lines p (z .0) ∙ ap₂ (validIn k lines) (z .1) (z .2) ∙ sym (valid-line k lines _ e f (rowAt w b k q x col y e) refl refl (p - first)))
+              (here w a k lines p (z .0) ∙ ap₂ (validIn k lines) (z .1) (z .2)
+              ∙ sym (valid-line k lines _ e f (rowAt w b k q x col y e) refl refl (p - first)))
 
           source : (p j : ℕ) → first ≤ p → p < first + n → j < b
               → getD src (((y + w .top - a .top) * a .width + x) * b + (p - first) * b + j) 0 ≡ tileByte w a b src p j
           source p j h i _ =
               let z = at p h i in
-              ap (λ (v : ℕ). getD src v 0) (spread ((y + w .top - a .top) * a .width) x (p - first) b j) ∙ sym (byte-here w a k lines p b src (z .1) (z .2) j)
+              ap (λ (v : ℕ). getD src v 0) (omega arith)
+              ∙ sym (byte-here w a k lines p b src (z .1) (z .2) j)
 
     -- what the rows give in all
-    pub rows-sum : {from line : ℕ} {row : Row} {t′ m′ : List ℕ} {r : ℕ} → StretchPainted t m src from lines line row n t′ m′ r → Fits w64 (g + r)
-    rows-sum {line = line} {row} {r = r} c =
+    pub rows-sum : {from line r : ℕ} {row : Row} {t′ m′ : List ℕ} → StretchPainted t m src from lines line row n t′ m′ r → Fits w64 (g + r)
+    rows-sum {line = line} {r} {row} c =
         let e : r ≤ n = rw (c .given) (count-le n (rowGives m (drop line lines) row)) in
         let f : g ≤ y * w .width = rw (o .done .given) (count-le (y * w .width) (gives w a k lines q m₀)) in
         omega (arith, row-end, window-fits)

@@ -42,8 +42,8 @@ module _ {b : ℕ} {on : ℕ → Bool} {px : ℕ → ℕ → ℕ} {t₀ m₀ : L
     given = sym (count-none n _ off);
   }
 
-  pub done-more : {n n′ : ℕ} {t m : List ℕ} {g : ℕ} → Done b on px t₀ m₀ n t m g → n ≤ n′ → ((p : ℕ) → n ≤ p → p < n′ → on p ≡ false)
-      → Done b on px t₀ m₀ n′ t m g
+  pub done-more : {n n′ g : ℕ} {t m : List ℕ} → Done b on px t₀ m₀ n t m g → n ≤ n′
+      → ((p : ℕ) → n ≤ p → p < n′ → on p ≡ false) → Done b on px t₀ m₀ n′ t m g
   done-more {n} {n′} o l off = record {
     target =
         o .target ∙ sym (paint-none n′ b _ px _ hb (λ p _. and-false (leb n p)))
@@ -59,12 +59,13 @@ module _ {b : ℕ} {on : ℕ → Bool} {px : ℕ → ℕ → ℕ} {t₀ m₀ : L
 
 -- a stretch
 module _ {row : Row} {on : ℕ → Bool} {px : ℕ → ℕ → ℕ} {t₀ m₀ : List ℕ} (hb : 1 ≤ row .bytes) (hm : Bytes m₀) where
-  pub done-stretch : {src : List ℕ} {from : ℕ} {lines : List ℕ} {line n : ℕ} {t₁ m₁ t₂ m₂ : List ℕ} {g r : ℕ}
-      → Done (row .bytes) on px t₀ m₀ (row .first) t₁ m₁ g → StretchPainted t₁ m₁ src from lines line row n t₂ m₂ r → row .first + n ≤ 8 * length m₀
-      → ((p : ℕ) → row .first ≤ p → p < row .first + n → on p ≡ givesPixel (row .quick) (validAt (drop line lines) row (p - row .first)) (bit m₀ p))
+  pub done-stretch : {src lines t₁ m₁ t₂ m₂ : List ℕ} {from line n g r : ℕ} → Done (row .bytes) on px t₀ m₀ (row .first) t₁ m₁ g
+      → StretchPainted t₁ m₁ src from lines line row n t₂ m₂ r → row .first + n ≤ 8 * length m₀
+      → ((p : ℕ) → row .first ≤ p → p < row .first + n
+      → on p ≡ givesPixel (row .quick) (validAt (drop line lines) row (p - row .first)) (bit m₀ p))
       → ((p j : ℕ) → row .first ≤ p → p < row .first + n → j < row .bytes → getD src (from + (p - row .first) * row .bytes + j) 0 ≡ px p j)
       → Done (row .bytes) on px t₀ m₀ (row .first + n) t₂ m₂ (g + r)
-  done-stretch {lines = lines} {line} {n} {m₁ = m₁} o c room valid bytes = record {
+  done-stretch {lines = lines} {m₁ = m₁} {line = line} {n} o c room valid bytes = record {
     target = c .target ∙ ap (paint (row .first + n) (row .bytes) _ _) (o .target) ∙ paint-then (le-add-right _ n) on _ hb px _ t₀ gave bytes;
     map =
         c .map ∙ ap (mark (row .first + n) _) (o .map)
@@ -89,8 +90,10 @@ kind-gives false w t m p = and-true (givesAt w t p)
 
 pub done-all : (q : Bool) (w : Rect) (b : ℕ) (t : Tile) {t₀ m₀ t₁ m₁ : List ℕ} (stored : ℕ) {g : ℕ}
     → Done b (λ p. givesPixel q (givesAt w t p) (bit m₀ p)) (λ p j. t .byte (colOf w p) (rowOf w p) j) t₀ m₀ (area w) t₁ m₁ g
-    → _≡_ {A = Painting} (record { target = t₁; map = m₁; stored = stored + g }) (turn (kindOf q) w b t (record { target = t₀; map = m₀; stored = stored }))
+    → _≡_ {A = Painting} (record { target = t₁; map = m₁; stored = stored + g })
+    (turn (kindOf q) w b t (record { target = t₀; map = m₀; stored = stored }))
 unfolding turn
 done-all q w b t {t₀} {m₀} {t₁} {m₁} stored {g} o i =
-    let d = subst (λ (on : ℕ → Bool). Done b on (λ p j. t .byte (colOf w p) (rowOf w p) j) t₀ m₀ (area w) t₁ m₁ g) (fun-ext (kind-gives q w t m₀)) o in
+    let px : ℕ → ℕ → ℕ = λ p j. t .byte (colOf w p) (rowOf w p) j in
+    let d = subst (λ (on : ℕ → Bool). Done b on px t₀ m₀ (area w) t₁ m₁ g) (fun-ext (kind-gives q w t m₀)) o in
     record { target = d .target i; map = d .map i; stored = stored + d .given i }

@@ -3,7 +3,8 @@ use mathlib.Core.Path.{_≡_, refl}
 use Prim.Native.Nat.{_*_, _-_}
 use native.Mathlib.Numerals.{lt-add-one, add-one-le}
 use native.Mathlib.Omega.{arith}
-use Rattle.paint.proofs.Along.{Along, may-give, lent-bytes, span-target, span-map, along-start, along-less, along-byte, along-sum, along-next, along-all}
+use Rattle.paint.proofs.Along.{Along, may-give, lent-bytes, span-target, span-map, along-start, along-less, along-byte, along-sum}
+use Rattle.paint.proofs.Along.{along-next, along-all}
 use Rattle.paint.proofs.paint_pixels.Statement.{statement}
 use Rattle.paint.proofs.paint_pixels.Tie as tie
 
