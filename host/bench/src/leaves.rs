@@ -27,6 +27,33 @@ pub fn judge_named_often(rounds: Rounds) -> [Duration; 2] {
     least(rounds, &mut (), [&judge(&often), &judge(&once)])
 }
 
+/// The views that are handed out of a file, each with its name: of its last tile, and of the whole file.
+pub const VIEWS: [(&str, fn(&[u8]) -> usize); 5] = [
+    ("pixels", |file| view(czi::tile_pixels(file, 4095))),
+    ("metadata", |file| view(czi::tile_metadata(file, 4095))),
+    ("attachment", |file| view(czi::tile_attachment(file, 4095))),
+    ("common XML", |file| view(czi::common_xml(file))),
+    ("common attachment", |file| view(czi::common_attachment(file))),
+];
+
+fn view(part: Result<&[u8], czi::Refusal>) -> usize {
+    part.expect("an accepted file").len()
+}
+
+/// Judges 4,096 tiles, each with a mask, and asks for each of the views.
+pub fn views(rounds: Rounds) -> ([Duration; 5], Duration) {
+    let file = Mosaic::new(PixelType::Gray8, &grid(64, 16, 16, TileMask::AllValid), 4094).bytes;
+    let judge = |_: &mut ()| time(|| czi::judge(black_box(&file)).expect("an accepted file"));
+    let ask = |n: usize| {
+        let file = &file;
+        move |_: &mut ()| time(|| assert!(black_box(VIEWS[n].1(black_box(file))) < file.len()))
+    };
+    let asks = [ask(0), ask(1), ask(2), ask(3), ask(4)];
+    let sides = [&judge as _, &asks[0], &asks[1], &asks[2], &asks[3], &asks[4]];
+    let [judged, views @ ..] = least(rounds, &mut (), sides);
+    (views, judged)
+}
+
 /// The length of the ranges compared.
 const RANGE: usize = 256;
 /// Each pair of ranges begins at one of so many places.

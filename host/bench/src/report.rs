@@ -113,6 +113,11 @@ impl Report {
         };
         self.limits
             .push(line("no attachments", TileMask::None).at_most(1.5));
+        let (views, judged) = leaves::views(rounds);
+        for ((name, _), took) in leaves::VIEWS.iter().zip(views) {
+            let measure = format!("view of 4,096 tiles, {name} / judge");
+            self.limits.push(Line::new(measure, took, judged).at_most(1.1));
+        }
         if all {
             self.others
                 .push(line("each with a mask", TileMask::AllValid));
