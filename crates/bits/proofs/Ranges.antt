@@ -1,17 +1,18 @@
 -- A range of a bit string marked: one byte's part of it, and two ranges that meet.
 use mathlib.Core.Path.{_≡_, sym, ap, ap₂, _∙_}
 use mathlib.Core.Logic.{by-cases}
-use Prim.Native.Nat.{ℕ, _+_, _*_, _/_, _%_, _^_, _≤_, _<_}
-use native.Mathlib.Decide.{decLt, decLe, ℕ-discrete}
+use Prim.Native.Nat.{ℕ, suc, _+_, _*_, _/_, _%_, _^_, _≤_, _<_}
+use native.Mathlib.Decide.{ℕ-discrete}
 use native.Mathlib.Omega.{arith}
 use mathlib.Core.List.{List}
-use mathlib.Core.Bool.{Bool, false, _&&_, _||_, and-false, or-comm}
+use mathlib.Core.Bool.{Bool, false, _&&_, _||_, and-false, and-comm, or-comm}
 use lib.Bits.{bitOr, or-lt}
 use lib.Dec.{leb, ltb}
 use lib.ListN.{length, getD, set, length-set}
 use lib.Seq.{getD-set-same, getD-set-other}
 use borrow.Author.Tests.{lt-ltb, le-ltb, le-leb, lt-leb}
 use Rattle.plane.specs.Paint.{bitIn, bit, pack, mark}
+use Rattle.plane.proofs.Tests.{by-lt, leb-same}
 use Rattle.plane.proofs.BitLaws.{bit-pack}
 use Rattle.plane.proofs.PaintLaws.{Bytes, cell, same-map, mark-noop, mark-bit, mark-bytes, mark-length}
 use Rattle.bits.proofs.Bitwise.{or-bit, one-packs}
@@ -34,9 +35,7 @@ stored m h n on k v l hv inside outside =
     same : (q : ℕ) → bit (set m k v) q ≡ ((ltb q n && on q) || bit m q)
     same q =
         by-cases (ℕ-discrete (q / 8) k)
-        (λ e. ap (λ (x : ℕ). bitIn x (q % 8)) (ap (λ (c : ℕ). getD (set m k v) c 0) e ∙ getD-set-same m k v 0 l)
-        ∙ inside (q % 8) (omega arith)
-        ∙ ap (λ (z : ℕ). (ltb z n && on z) || bit m z) (omega arith))
+        (λ e. let f : 8 * k + q % 8 ≡ q = omega arith in rw (e, getD-set-same m k v 0 l, inside (q % 8) (omega arith), f, e))
         (λ e. rw (getD-set-other m k (q / 8) v 0 e, outside q e))
 
 -- a byte `|` v
@@ -52,7 +51,7 @@ or-marks m h k v l hv =
 
     there : (q : ℕ) → (q / 8 ≡ k → ⊥) → (ltb q (8 * k + 8) && (leb (8 * k) q && bitIn v (q % 8))) ≡ false
     there q e =
-        by-cases (decLt q (8 * k + 8)) (λ b. rw (lt-leb (8 * k) q (omega arith)) (and-false (ltb q (8 * k + 8)))) (λ b. rw (le-ltb q (8 * k + 8) (omega arith)))
+        by-lt q (8 * k + 8) (λ b. rw (lt-leb (8 * k) q (omega arith)) (and-false (ltb q (8 * k + 8)))) (λ b. rw (le-ltb q (8 * k + 8) b))
 
 -- ---- ranges
 
@@ -65,7 +64,7 @@ module _ (m : List ℕ) (h : Bytes m) where
   mark-same n n′ on on′ e =
       same-map (mark n on m) (mark n′ on′ m) (mark-length n on m ∙ sym (mark-length n′ on′ m)) (mark-bytes n on m h) (mark-bytes n′ on′ m h)
       (λ q b. let l : q < 8 * length m = rw (← mark-length n on m) b in
-      mark-bit n on m q l ∙ ap (λ (x : Bool). x || bit m q) (e q) ∙ sym (mark-bit n′ on′ m q l))
+      rw (mark-bit n on m q l, mark-bit n′ on′ m q l, e q))
 
   -- no bit
   pub marked-none : (a : ℕ) → mark a (λ q. leb a q) m ≡ m
@@ -78,12 +77,9 @@ module _ (m : List ℕ) (h : Bytes m) where
       (mark-bytes c _ _ (mark-bytes b _ m h)) (mark-bytes c _ m h)
       (λ q x. let y : q < 8 * length (mark b (λ q. leb a q) m) = rw (← mark-length c (λ q. leb b q) (mark b (λ q. leb a q) m)) x in
       let z : q < 8 * length m = rw (← mark-length b (λ q. leb a q) m) y in
-      mark-bit c _ _ q y ∙ ap (λ (t : Bool). (ltb q c && leb b q) || t) (mark-bit b _ m q z) ∙ joins q ∙ sym (mark-bit c _ m q z))
-    where
-      joins : (q : ℕ) → ((ltb q c && leb b q) || ((ltb q b && leb a q) || bit m q)) ≡ ((ltb q c && leb a q) || bit m q)
-      joins q =
-          by-cases (decLt q b) (λ l. rw (lt-ltb q c (omega arith), lt-leb b q l, lt-ltb q b l))
-          (λ l. rw (le-leb b q (omega arith), le-ltb q b (omega arith), le-leb a q (omega arith)))
+      rw (mark-bit c (λ q. leb b q) (mark b (λ q. leb a q) m) q y, mark-bit b (λ q. leb a q) m q z, mark-bit c (λ q. leb a q) m q z)
+      (by-lt q b (λ l. rw (lt-ltb q c (omega arith), lt-leb b q l, lt-ltb q b l))
+      (λ l. rw (le-leb b q l, le-ltb q b l, le-leb a q (omega arith)))))
 
   -- the same by equations: m′ is marked up to b, and m″ is m′ marked from there up to c
   pub range-then : {m′ m″ : List ℕ} {a b b′ c : ℕ} → a ≤ b → b ≡ b′ → b′ ≤ c → m′ ≡ mark b (λ q. leb a q) m → m″ ≡ mark c (λ q. leb b′ q) m′
@@ -94,24 +90,20 @@ module _ (m : List ℕ) (h : Bytes m) where
   -- the bits from number s up to number t of byte k
   pub range-part : (k s t : ℕ) → t ≤ 8 → (v : ℕ) → v ≡ pack (λ i. leb s i && ltb i t)
       → mark (8 * k + 8) (λ q. leb (8 * k) q && bitIn v (q % 8)) m ≡ mark (8 * k + t) (λ q. leb (8 * k + s) q) m
-  range-part k s t l v e =
-      mark-same (8 * k + 8) (8 * k + t) _ _
-      (λ q. ap (λ (x : Bool). ltb q (8 * k + 8) && (leb (8 * k) q && x)) (ap (λ (y : ℕ). bitIn y (q % 8)) e ∙ bit-pack _ (q % 8) (omega arith))
-      ∙ same q)
+  range-part k s t l v e = mark-same (8 * k + 8) (8 * k + t) _ _ (λ q. rw (e, bit-pack _ (q % 8) (omega arith)) (same q))
     where
       same : (q : ℕ) → (ltb q (8 * k + 8) && (leb (8 * k) q && (leb s (q % 8) && ltb (q % 8) t))) ≡ (ltb q (8 * k + t) && leb (8 * k + s) q)
       same q =
-          by-cases (decLt q (8 * k + 8))
-          (λ a. by-cases (decLe (8 * k) q)
-          (λ b. by-cases (decLe s (q % 8))
-          (λ c. by-cases (decLt (q % 8) t)
-          (λ d. rw (lt-ltb q (8 * k + 8) a, le-leb (8 * k) q b, le-leb s (q % 8) c, lt-ltb (q % 8) t d)
-          (rw (lt-ltb q (8 * k + t) (omega arith), le-leb (8 * k + s) q (omega arith))))
-          (λ d. rw (lt-ltb q (8 * k + 8) a, le-leb (8 * k) q b, le-leb s (q % 8) c, le-ltb (q % 8) t (omega arith), le-ltb q (8 * k + t) (omega arith))))
-          (λ c. rw (lt-ltb q (8 * k + 8) a, le-leb (8 * k) q b, lt-leb s (q % 8) (omega arith), lt-leb (8 * k + s) q (omega arith))
-          (sym (and-false (ltb q (8 * k + t))))))
-          (λ b. rw (lt-ltb q (8 * k + 8) a, lt-leb (8 * k) q (omega arith), lt-leb (8 * k + s) q (omega arith)) (sym (and-false (ltb q (8 * k + t))))))
-          (λ a. rw (le-ltb q (8 * k + 8) (omega arith), le-ltb q (8 * k + t) (omega arith)))
+          by-lt q (8 * k)
+          (λ a. rw (lt-leb (8 * k) q a, lt-leb (8 * k + s) q (omega arith), and-false, and-false))
+          (λ a. by-lt q (8 * k + 8)
+          (λ b. rw (
+            lt-ltb q (8 * k + 8) b,
+            le-leb (8 * k) q a,
+            leb-same s (q % 8) (8 * k + s) q (λ c. omega arith) (λ c. omega arith),
+            leb-same (suc (q % 8)) t (suc q) (8 * k + t) (λ c. omega arith) (λ c. omega arith),
+          ) (and-comm (leb (8 * k + s) q) (ltb q (8 * k + t))))
+          (λ b. rw (le-ltb q (8 * k + 8) b, le-ltb q (8 * k + t) (omega arith))))
 
   -- one bit
   pub range-one : (p : ℕ) → mark (8 * (p / 8) + 8) (λ q. leb (8 * (p / 8)) q && bitIn (128 / 2 ^ (p % 8)) (q % 8)) m ≡ mark (p + 1) (λ q. leb p q) m

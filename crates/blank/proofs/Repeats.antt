@@ -1,6 +1,6 @@
 -- A pixel's bytes repeated: what lies whole pixels back is the same.
 use mathlib.Core.Path.{_≡_, refl, sym, ap, _∙_}
-use Prim.Native.Nat.{ℕ, _+_, _*_, _-_, _/_, _%_, _≤_, _<_}
+use Prim.Native.Nat.{ℕ, _+_, _*_, _-_, _/_, _%_, _≤_}
 use native.Mathlib.Nat.{add-assoc, zero-mul, mul-le-mul-right, one-mul, add-mod-left, mod-lt, mod-eq-of-lt}
 use native.Mathlib.Omega.{arith}
 use mathlib.Core.List.{List}
@@ -43,22 +43,16 @@ repeat-start : (t : List ℕ) (b : ℕ) → t ≡ front (λ i. getD t (i % b) 0)
 repeat-start t b = front-is _ b t t refl (λ i h l. ap (λ (j : ℕ). getD t j 0) (sym (mod-eq-of-lt l))) (λ i h l. refl)
 
 -- the first m bytes copied to where the repetition ends
-repeat-more : (f : ℕ → ℕ) (k m : ℕ) (t r : List ℕ) → Period f k → m ≤ k → k + m ≤ length t → r ≡ front f k t → moved r r k 0 m ≡ front f (k + m) t
-repeat-more f k m t r p h l e =
-    front-is f (k + m) t (moved r r k 0 m) (moved-length r r k 0 m ∙ same) new
-    (λ i b q. moved-past r r k 0 m i (rw same b) q ∙ ap (λ (x : List ℕ). getD x i 0) e ∙ front-past f k t i b (omega arith))
-  where
-    same : length r ≡ length t
-    same = ap length e ∙ front-length f k t
-
-    old : (i : ℕ) → i < length t → i < k → getD r i 0 ≡ f i
-    old i b q = ap (λ (x : List ℕ). getD x i 0) e ∙ front-in f k t i b q
-
-    new : (i : ℕ) → i < length t → i < k + m → getD (moved r r k 0 m) i 0 ≡ f i
-    new i b q =
-        by-range k (k + m) i (λ x. moved-below r r k 0 m i (rw same b) x ∙ old i b x)
-        (λ x y. moved-in r r k 0 m i (rw same b) x y ∙ old (0 + (i - k)) (omega arith) (omega arith) ∙ sym (p (0 + (i - k))) ∙ ap f (omega arith))
-        (λ x. absurd (omega arith))
+repeat-more : (f : ℕ → ℕ) (k m : ℕ) (t : List ℕ) → Period f k → m ≤ k → k + m ≤ length t → moved (front f k t) (front f k t) k 0 m ≡ front f (k + m) t
+repeat-more f k m t p h l =
+    let r = front f k t in
+    let same = front-length f k t in
+    front-is f (k + m) t (moved r r k 0 m) (moved-length r r k 0 m ∙ same)
+    (λ i b q.
+    by-range k (k + m) i (λ x. moved-below r r k 0 m i (rw same b) x ∙ front-in f k t i b x)
+    (λ x y. moved-in r r k 0 m i (rw same b) x y ∙ front-in f k t (0 + (i - k)) (omega arith) (omega arith) ∙ sym (p (0 + (i - k))) ∙ ap f (omega arith))
+    (λ x. absurd (omega arith)))
+    (λ i b q. moved-past r r k 0 m i (rw same b) q ∙ front-past f k t i b (omega arith))
 
 -- the first k bytes of t are repeated in r; k and the next step's width w are periods of them
 pub record Repeating (t : List ℕ) (b end : ℕ) (r : List ℕ) (w k : ℕ) : Type 0 where
@@ -95,7 +89,7 @@ repeating-next {t} {b} {r = r} {w} {k} v l h g {w′} e =
       room = omega (arith, v .room);
       step = period-wider _ w w′ e (v .step);
       place = period-sum _ k w (v .place) (v .step);
-      bytes = g ∙ repeat-more _ k w t r (v .place) (v .known) (omega (arith, v .room)) (v .bytes);
+      bytes = g ∙ rw (v .bytes) (repeat-more _ k w t (v .place) (v .known) (omega (arith, v .room)));
       same = ap length g ∙ moved-length r r k 0 w ∙ v .same;
     }
 
@@ -103,8 +97,8 @@ repeating-next {t} {b} {r = r} {w} {k} v l h g {w′} e =
 pub repeating-end : {t : List ℕ} {b end : ℕ} {r : List ℕ} {w k : ℕ} → Repeating t b end r w k → end ≤ length t → end - k ≤ w
     → {r′ : List ℕ} → r′ ≡ moved r r k 0 (end - k) → r′ ≡ front (λ i. getD t (i % b) 0) end t
 repeating-end {t} {b} {end} {r} {w} {k} v l h g =
-    g ∙ repeat-more _ k (end - k) t r (v .place) (omega arith) (omega arith) (v .bytes)
-    ∙ ap (λ (n : ℕ). front (λ i. getD t (i % b) 0) n t) (omega arith)
+    let e : k + (end - k) ≡ end = omega arith in
+    g ∙ rw (v .bytes) (rw e at (repeat-more _ k (end - k) t (v .place) (omega arith) (omega arith)))
 
 -- ---- the background, n pixels of b bytes
 

@@ -22,14 +22,10 @@ high-ones : (x : ℕ) → x < 256 → (r : ℕ) → r ≤ 8 → count r (bitIn x
 unfolding sum bitIn
 high-ones x h zero l = sym (ap Count.ones (div-eq-of-lt h) ∙ no-ones)
 high-ones x h (suc r) l =
-    ap₂ (λ (y z : ℕ). y + z) (high-ones x h r (omega arith)) (digit (x / 2 ^ (7 - r)))
-    ∙ add-comm (Count.ones (x / 2 ^ (8 - r))) (x / 2 ^ (7 - r) % 2)
-    ∙ ap (λ (z : ℕ). x / 2 ^ (7 - r) % 2 + Count.ones z) (sym half)
-    ∙ sym (ones-step (x / 2 ^ (7 - r)))
-    ∙ ap (λ (z : ℕ). Count.ones (x / 2 ^ z)) (omega arith)
-  where
-    half : x / 2 ^ (7 - r) / 2 ≡ x / 2 ^ (8 - r)
-    half = div-div-eq-div-mul x (2 ^ (7 - r)) 2 ∙ ap (λ (z : ℕ). x / z) (sym (pow-suc 2 (7 - r))) ∙ ap (λ (z : ℕ). x / 2 ^ z) (omega arith)
+    let e : 8 - suc r ≡ 7 - r = omega arith in
+    let f : 8 - r ≡ suc (7 - r) = omega arith in
+    let half : x / 2 ^ (8 - r) ≡ x / 2 ^ (7 - r) / 2 = rw (f, pow-suc) (sym (div-div-eq-div-mul x (2 ^ (7 - r)) 2)) in
+    rw (high-ones x h r (omega arith), digit (x / 2 ^ (7 - r)), half, e, ones-step (x / 2 ^ (7 - r))) (add-comm _ _)
 
 byte-ones : (x : ℕ) → x < 256 → count 8 (bitIn x) ≡ Count.ones x
 byte-ones x h = high-ones x h 8 (omega arith) ∙ ap Count.ones (div-one x)

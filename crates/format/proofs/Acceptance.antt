@@ -1,19 +1,21 @@
 -- A file is accepted exactly when it is well formed (demand 2). Assumes nothing.
 use mathlib.Core.Path.{_≡_}
 use mathlib.Core.Logic.{_↔_}
+use borrow.Author.Tests.{eq-eqb, eqb-true, not-false}
 use Rattle.format.specs.Checks.{first}
 use Rattle.format.specs.Scan.{Scan}
 use Rattle.format.specs.Segments.{walked, segmentsRows}
-use Rattle.format.specs.File.{fileRows}
+use Rattle.format.specs.File.{directoryPosition, namesNone, fileRows}
+use Rattle.format.specs.Names.{nameDirectory}
 use Rattle.format.specs.Directory.{directoryRows}
 use Rattle.format.specs.Attachments.{metadataRows, attachmentsRows}
 use Rattle.format.specs.Rules.{checks, verdict}
 use Rattle.format.specs.WellFormed.{WellFormed}
 use Rattle.format.specs.declared.Verdict.the-variants.{Accepted}
-use Rattle.format.proofs.Firsts.{first-append, first-both}
-use Rattle.format.proofs.SegmentLaws.{walked-places}
+use Rattle.format.proofs.Firsts.{first-append, first-both, passed}
+use Rattle.format.proofs.SegmentLaws.{walked-places, names-ok, names-accepted}
 use Rattle.format.proofs.Walk.{segments-chain, chain-segments}
-use Rattle.format.proofs.FileRows.{Fields, file-ok, file-accepted, directory-ok, directory-accepted}
+use Rattle.format.proofs.FileRows.{directory-ok, directory-accepted}
 use Rattle.format.proofs.FileRows.{metadata-ok, metadata-accepted, attachments-ok, attachments-accepted}
 
 -- the five parts of the rules
@@ -38,10 +40,11 @@ unfolding verdict checks
 parts-verdict sc p = simp (first-append, p .segments, p .file, p .directory, p .metadata) (p .attachments)
 
 well-formed : (sc : Scan) → Parts sc → WellFormed sc
+unfolding fileRows namesNone
 well-formed sc p =
     let c = segments-chain (sc .file) (p .segments) in
     let w = walked-places (sc .file) in
-    let f = file-ok (sc .file) (p .file) in
+    let g = passed (fileRows (sc .file)) (p .file) in
     let d = directory-ok sc (p .directory) in
     record {
       length-right = c .0;
@@ -49,14 +52,14 @@ well-formed sc p =
       tile = c .1;
       few = w .few;
       segment = w .segment;
-      major-right = f .major-right;
-      part = f .part;
-      settled = f .settled;
-      names-directory = f .directory;
+      major-right = eqb-true _ _ (not-false _ (g 0));
+      part = eqb-true _ _ (not-false _ (g 1));
+      settled = eqb-true _ _ (not-false _ (g 2));
+      names-directory = names-ok (sc .file) _ _ (not-false _ (g 3));
       directory = d .0;
       entries = d .1;
-      metadata = metadata-ok (sc .file) (f .metadata) (p .metadata);
-      attachments = attachments-ok (sc .file) (f .attachments) (p .attachments);
+      metadata = metadata-ok (sc .file) (g 4) (p .metadata);
+      attachments = attachments-ok (sc .file) (g 5) (p .attachments);
     }
 
 -- the segments of a well-formed file are the walked ones
@@ -64,21 +67,15 @@ pub segments-walked : (sc : Scan) (w : WellFormed sc) → walked (sc .file) ≡ 
 segments-walked sc w = chain-segments (sc .file) (w .segments) (w .length-right) (w .tile) (w .segment) (w .few) .1
 
 parts : (sc : Scan) → WellFormed sc → Parts sc
+unfolding fileRows namesNone
 parts sc w =
     let e = segments-walked sc w in
+    let n = names-accepted (sc .file) (directoryPosition (sc .file)) nameDirectory (rw e (w .names-directory)) in
     let m = metadata-accepted (sc .file) (rw e (w .metadata)) in
     let a = attachments-accepted (sc .file) (rw e (w .attachments)) in
-    let f : Fields (sc .file) = record {
-      major-right = w .major-right;
-      part = w .part;
-      settled = w .settled;
-      directory = rw e (w .names-directory);
-      metadata = m .0;
-      attachments = a .0;
-    } in
     record {
       segments = chain-segments (sc .file) (w .segments) (w .length-right) (w .tile) (w .segment) (w .few) .0;
-      file = file-accepted (sc .file) f;
+      file = rw (eq-eqb _ _ (w .major-right), eq-eqb _ _ (w .part), eq-eqb _ _ (w .settled), n, m .0, a .0);
       directory = directory-accepted sc (w .directory) (rw e (w .entries));
       metadata = m .1;
       attachments = a .1;

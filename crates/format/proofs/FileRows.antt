@@ -1,4 +1,4 @@
--- The rows of the file segment, of the three segments that it names and of their entries accept exactly where those are well formed. Assumes nothing.
+-- The rows of the three segments that the file segment names, and of their entries, accept exactly where those are well formed. Assumes nothing.
 use Prim.Native.Nat.{ℕ, _<_}
 use mathlib.Core.Path.{_≡_, refl}
 use mathlib.Core.Logic.{_⊎_, inl, inr, ⊎-elim}
@@ -6,12 +6,12 @@ use mathlib.Core.List.{List, [], _∷_}
 use mathlib.Core.Bool.{true, false, cond}
 use lib.Dec.{eqb}
 use borrow.Author.Tests.{le-ltb, ltb-false, eq-eqb, ne-eqb, eqb-true, eqb-false, not-false}
-use Rattle.format.specs.Names.{nameDirectory, nameMetadata, nameAttachmentDirectory}
+use Rattle.format.specs.Names.{nameMetadata, nameAttachmentDirectory}
 use Rattle.format.specs.Checks.{Check, row, first, rowsBelow}
 use Rattle.format.specs.Scan.{Scan, blockFile}
 use Rattle.format.specs.Segments.{walked}
-use Rattle.format.specs.File.{major, filePart, updatePending, directoryPosition, metadataPosition, attachmentDirectoryPosition}
-use Rattle.format.specs.File.{namesNone, namesNoneBut0, fileRows}
+use Rattle.format.specs.File.{directoryPosition, metadataPosition, attachmentDirectoryPosition}
+use Rattle.format.specs.File.{namesNone, namesNoneBut0}
 use Rattle.format.specs.Entry.{filePosition}
 use Rattle.format.specs.SubBlock.{attachmentSize, attachmentPlace}
 use Rattle.format.specs.Masks.{hasChunks}
@@ -111,41 +111,6 @@ module _ (bs : List ℕ) (q : ℕ) (name : List ℕ) (rows : List Check) where
   optional-accepted (inr x) = by-bool (eqb q 0) (λ f. rw f (refl, refl)) (λ f. rw (f, names-accepted bs q name (x .0)) (refl, x .1))
 
 module _ (bs : List ℕ) where
-  -- ---- the file segment
-
-  pub record Fields : Type 0 where
-    pub major-right : major bs ≡ 1
-    pub part : filePart bs ≡ 0
-    pub settled : updatePending bs ≡ 0
-    pub directory : Names bs (walked bs) (directoryPosition bs) nameDirectory
-    pub metadata : namesNoneBut0 bs (metadataPosition bs) nameMetadata ≡ false
-    pub attachments : namesNoneBut0 bs (attachmentDirectoryPosition bs) nameAttachmentDirectory ≡ false
-
-  pub file-ok : first (fileRows bs) ≡ Accepted → Fields
-  unfolding fileRows namesNone
-  file-ok e =
-      let g = passed (fileRows bs) e in
-      record {
-        major-right = eqb-true _ _ (not-false _ (g 0));
-        part = eqb-true _ _ (not-false _ (g 1));
-        settled = eqb-true _ _ (not-false _ (g 2));
-        directory = names-ok bs _ _ (not-false _ (g 3));
-        metadata = g 4;
-        attachments = g 5;
-      }
-
-  pub file-accepted : Fields → first (fileRows bs) ≡ Accepted
-  unfolding fileRows namesNone
-  file-accepted f =
-      rw (
-        eq-eqb _ _ (f .major-right),
-        eq-eqb _ _ (f .part),
-        eq-eqb _ _ (f .settled),
-        names-accepted bs _ _ (f .directory),
-        f .metadata,
-        f .attachments,
-      )
-
   -- ---- the metadata segment
 
   abbrev metadataRow : List Check

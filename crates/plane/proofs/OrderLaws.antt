@@ -87,14 +87,14 @@ unfolding insert below
 insert-rising t [] d r = (λ s m. absurd (List·Memᴰ·not-nil m), tt)
 insert-rising t (s ∷ ss) d r =
     cond-case (λ (l : List Tile). Rising l) (below t s)
-    (λ e. (λ x m. ⊎-elim (λ q. lower x q (leb-true _ _ e)) (λ m. omega (arith, leb-true (t .rank) (s .rank) e, r .0 x m)) (List·Memᴰ·cases-cons m), r))
+    (λ e.
+    let n = d s (List·Memᴰ·head refl) in
+    let lt : t .rank < s .rank = omega (arith, leb-true (t .rank) (s .rank) e, n) in
+    (λ x m. ⊎-elim (λ (q : x ≡ s). rw q lt) (λ m. omega (arith, leb-true (t .rank) (s .rank) e, r .0 x m)) (List·Memᴰ·cases-cons m), r))
     (λ e. (
       λ x m. ⊎-elim (λ (q : x ≡ t). rw q (leb-false _ _ e)) (λ m. r .0 x m) (List·Memᴰ·cases-cons (perm-mem (insert-perm t ss) m)),
       insert-rising t ss (λ x m. d x (List·Memᴰ·tail m)) (r .1),
     ))
-  where
-    lower : (x : Tile) → x ≡ s → t .rank ≤ s .rank → t .rank < x .rank
-    lower x q h = let n : t .rank ≡ s .rank → ⊥ = d s (List·Memᴰ·head refl) in rw q (omega arith)
 
 pub sort-rising : (ts : List Tile) → Ranked ts → Rising (bottomFirst ts)
 unfolding bottomFirst

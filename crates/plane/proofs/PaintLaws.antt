@@ -48,12 +48,11 @@ module _ (n b : ℕ) (on : ℕ → Bool) (px : ℕ → ℕ → ℕ) (t : List �
   -- byte j of pixel p, of any pixel that the list has
   pub paint-pixel : (p j : ℕ) → j < b → p * b + j < length t
       → getD (paint n b on px t) (p * b + j) 0 ≡ cond (ltb p n && on p) (px p j) (getD t (p * b + j) 0)
-  paint-pixel p j hj h = paint-at (p * b + j) h ∙ (rw (digits-div p hj, digits-mod p hj, below))
-    where
-      below : ltb (p * b + j) (n * b) ≡ ltb p n
-      below =
-          by-lt p n (λ l. rw (lt-ltb p n l, lt-ltb (p * b + j) (n * b) (digits-lt l hj)))
-          (λ l. rw (le-ltb p n l, le-ltb (p * b + j) (n * b) (le-trans (mul-le-mul-right b l) (le-add-right (p * b) j))))
+  paint-pixel p j hj h =
+      let below : ltb (p * b + j) (n * b) ≡ ltb p n =
+      by-lt p n (λ l. rw (lt-ltb p n l, lt-ltb (p * b + j) (n * b) (digits-lt l hj)))
+      (λ l. rw (le-ltb p n l, le-ltb (p * b + j) (n * b) (le-trans (mul-le-mul-right b l) (le-add-right (p * b) j)))) in
+      paint-at (p * b + j) h ∙ (rw (digits-div p hj, digits-mod p hj, below))
 
   -- a list that at each of its n pixels is as painted, and past them as it was, is the painted one
   pub paint-eq : 1 ≤ b → (t′ : List ℕ) → length t′ ≡ length t
@@ -153,10 +152,10 @@ mark-noop n on m h e =
 -- painting nothing
 pub paint-none : (n b : ℕ) (on : ℕ → Bool) (px : ℕ → ℕ → ℕ) (t : List ℕ) → 1 ≤ b → ((p : ℕ) → p < n → on p ≡ false) → paint n b on px t ≡ t
 unfolding paint
-paint-none n b on px t hb e = tab-ext (length t) _ (λ k. getD t k 0) (λ k _. go k) ∙ sym (tab-getD t)
-  where
-    go : (k : ℕ) → cond (ltb k (n * b) && on (k / b)) (px (k / b) (k % b)) (getD t k 0) ≡ getD t k 0
-    go k = by-lt k (n * b) (λ l. rw (lt-ltb k (n * b) l, e (k / b) (div-lt-iff-lt-mul hb .1 l))) (λ l. rw (le-ltb k (n * b) l))
+paint-none n b on px t hb e =
+    tab-ext (length t) _ (λ k. getD t k 0)
+    (λ k _. by-lt k (n * b) (λ l. rw (lt-ltb k (n * b) l, e (k / b) (div-lt-iff-lt-mul hb .1 l))) (λ l. rw (le-ltb k (n * b) l)))
+    ∙ sym (tab-getD t)
 
 -- bits are set as the test says below n, whatever it says past them
 pub mark-ext : (n : ℕ) (on on′ : ℕ → Bool) (m : List ℕ) → ((p : ℕ) → p < n → on p ≡ on′ p) → mark n on m ≡ mark n on′ m

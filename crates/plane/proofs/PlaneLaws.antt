@@ -1,6 +1,6 @@
 -- Demand 2's plane: each composer makes it, it is one alone, its pixels do not depend on the window, its count adds up over a cut.
 use mathlib.Core.Path.{_≡_, refl, sym, ap, _∙_}
-use mathlib.Core.Logic.{_⊎_, inl, inr}
+use mathlib.Core.Logic.{⊎-elim}
 use Prim.Native.Nat.{ℕ, _+_, _*_, _-_, _/_, _%_, _<_}
 use native.Mathlib.Nat.{mod-lt, div-add-mod', div-lt-iff-lt-mul, add-assoc}
 use native.Mathlib.Omega.{arith}
@@ -107,19 +107,17 @@ module _ (w : Rect) (b : ℕ) (bg : List ℕ) (ts : List Tile) (t m : List ℕ) 
 module _ (b : ℕ) (bg : List ℕ) (ts : List Tile) where
   pub same-pixels : (w w′ : Rect) (t₀ m₀ t₀′ m₀′ : List ℕ) (s s′ : Painting)
       → Plane w b bg ts t₀ m₀ (s .target) (s .map) → Plane w′ b bg ts t₀′ m₀′ (s′ .target) (s′ .map) → SamePixels b w w′ s s′
-  same-pixels w w′ t₀ m₀ t₀′ m₀′ s s′ a a′ x y x′ y′ hx hy hx′ hy′ eu ev = go (top-or-none (w .left + x) (w .top + y) ts)
-    where
-      go : ((q : Tile) × Top ts (w .left + x) (w .top + y) q) ⊎ None ts (w .left + x) (w .top + y)
-          → ((j : ℕ) → j < b → getD (s .target) ((y * w .width + x) * b + j) 0 ≡ getD (s′ .target) ((y′ * w′ .width + x′) * b + j) 0)
-          × (bit (s .map) (y * w .width + x) ≡ bit (s′ .map) (y′ * w′ .width + x′))
-      go (inl (q, o)) =
-          let g = a .given x y hx hy q o in
-          let g′ = a′ .given x′ y′ hx′ hy′ q (rw (eu, ev) at o) in
-          (λ j h. g .0 j h ∙ rw (eu, ev) (sym (g′ .0 j h)), g .1 ∙ sym (g′ .1))
-      go (inr n) =
-          let g = a .ground x y hx hy n in
-          let g′ = a′ .ground x′ y′ hx′ hy′ (rw (eu, ev) at n) in
-          (λ j h. g .0 j h ∙ sym (g′ .0 j h), g .1 ∙ sym (g′ .1))
+  same-pixels w w′ t₀ m₀ t₀′ m₀′ s s′ a a′ x y x′ y′ hx hy hx′ hy′ eu ev =
+      ⊎-elim
+      (λ o.
+      let g = a .given x y hx hy (o .0) (o .1) in
+      let g′ = a′ .given x′ y′ hx′ hy′ (o .0) (rw (eu, ev) at (o .1)) in
+      (λ j h. g .0 j h ∙ rw (eu, ev) (sym (g′ .0 j h)), g .1 ∙ sym (g′ .1)))
+      (λ n.
+      let g = a .ground x y hx hy n in
+      let g′ = a′ .ground x′ y′ hx′ hy′ (rw (eu, ev) at n) in
+      (λ j h. g .0 j h ∙ sym (g′ .0 j h), g .1 ∙ sym (g′ .1)))
+      (top-or-none (w .left + x) (w .top + y) ts)
 
   -- and the plane of one window is one alone
   pub one-plane : (w : Rect) (t m : List ℕ) (s s′ : Painting) → Room w b t m
@@ -156,13 +154,13 @@ module _ (b : ℕ) (bg : List ℕ) (ts : List Tile) where
   pub plane-ones : (w : Rect) (t₀ m₀ t m : List ℕ) → Plane w b bg ts t₀ m₀ t m → ones (area w) m ≡ within w (covered ts)
   unfolding within
   plane-ones w t₀ m₀ t m a =
-      sum-rows (w .height) (w .width) _
-      ∙ sum-ext (w .height) _ _ (λ y hy. sum-ext (w .width) _ _ (λ x hx. ap one (go x y hx hy (top-or-none (w .left + x) (w .top + y) ts))))
+      sum-rows (w .height) (w .width) _ ∙ sum-ext (w .height) _ _ (λ y hy. sum-ext (w .width) _ _ (λ x hx. ap one (go x y hx hy)))
     where
-      go : (x y : ℕ) → x < w .width → y < w .height → ((q : Tile) × Top ts (w .left + x) (w .top + y) q) ⊎ None ts (w .left + x) (w .top + y)
-          → bit m (y * w .width + x) ≡ covered ts (w .left + x) (w .top + y)
-      go x y hx hy (inl (q, o)) = a .given x y hx hy q o .1 ∙ sym (covered-mem (w .left + x) (w .top + y) ts (o .chosen) (o .gives))
-      go x y hx hy (inr n) = a .ground x y hx hy n .1 ∙ sym (covered-none (w .left + x) (w .top + y) ts n)
+      go : (x y : ℕ) → x < w .width → y < w .height → bit m (y * w .width + x) ≡ covered ts (w .left + x) (w .top + y)
+      go x y hx hy =
+          ⊎-elim (λ o. a .given x y hx hy (o .0) (o .1) .1 ∙ sym (covered-mem (w .left + x) (w .top + y) ts (o .1 .chosen) (o .1 .gives)))
+          (λ n. a .ground x y hx hy n .1 ∙ sym (covered-none (w .left + x) (w .top + y) ts n))
+          (top-or-none (w .left + x) (w .top + y) ts)
 
 -- a count of plane pixels over a window is the sum of those over its two halves
 pub within-cut : (l : Line) (w : Rect) → Cuts l w → (f : ℕ → ℕ → Bool) → within w f ≡ within (fore l w) f + within (rear l w) f

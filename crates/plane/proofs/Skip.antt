@@ -4,7 +4,7 @@ use mathlib.Core.Logic.{⊎-elim}
 use Prim.Native.Nat.{ℕ, _+_, _≤_, _<_}
 use native.Mathlib.Omega.{arith}
 use mathlib.Core.List.{List, [], _∷_, reverseAux, List·Memᴰ, List·Memᴰ·head, List·Memᴰ·tail, List·Memᴰ·not-nil, List·Memᴰ·cases-cons}
-use mathlib.Core.Bool.{Bool, true, false, cond, not, _&&_, _||_, true≢false}
+use mathlib.Core.Bool.{Bool, true, false, cond, not, _&&_, true≢false}
 use Rattle.plane.specs.Tiles.{Tile, Ranked, area, colOf, rowOf, givesAt}
 use Rattle.plane.specs.Paint.{bit}
 use Rattle.plane.specs.Turns.{Painting, Kind, plain, quick, turnGives, turnAdds, turn, run, start, order, bottomFirst, compose}
@@ -25,14 +25,13 @@ pub turn-nothing : (k : Kind) (w : Rect) (b : ℕ) (t : Tile) (s : Painting) →
     → ((p : ℕ) → p < area w → turnGives k w t (s .map) p ≡ false)
     → turn k w b t s ≡ s
 unfolding turn
-turn-nothing k w b t s hb h e i = record {
-  target = paint-none (area w) b (turnGives k w t (s .map)) (λ p j. t .byte (colOf w p) (rowOf w p) j) (s .target) hb e i;
-  map = mark-noop (area w) (turnGives k w t (s .map)) (s .map) h (λ p l. ap (λ (x : Bool). x || bit (s .map) p) (e p l)) i;
-  stored = none i;
-}
-  where
-    none : s .stored + turnAdds k w t (s .map) ≡ s .stored
-    none = omega (arith, count-none (area w) (turnGives k w t (s .map)) e)
+turn-nothing k w b t s hb h e i =
+    let none : s .stored + turnAdds k w t (s .map) ≡ s .stored = omega (arith, count-none (area w) (turnGives k w t (s .map)) e) in
+    record {
+      target = paint-none (area w) b (turnGives k w t (s .map)) (λ p j. t .byte (colOf w p) (rowOf w p) j) (s .target) hb e i;
+      map = mark-noop (area w) (turnGives k w t (s .map)) (s .map) h (λ p l. rw (e p l)) i;
+      stored = none i;
+    }
 
 -- so does that of a tile that gives no pixel of the window, in either composer
 pub turn-apart : (k : Kind) (w : Rect) (b : ℕ) (t : Tile) (s : Painting) → 1 ≤ b → MapBytes w (s .map) → ((p : ℕ) → p < area w → givesAt w t p ≡ false)

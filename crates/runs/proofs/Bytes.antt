@@ -1,12 +1,12 @@
 -- Runs of bits within a byte, and bytes whose bits are all the same.
-use mathlib.Core.Path.{_≡_, refl, sym, ap, _∙_, subst}
+use mathlib.Core.Path.{_≡_, refl, sym, ap, _∙_}
 use mathlib.Core.Logic.{by-cases}
 use Prim.Native.Nat.{ℕ, zero, suc, _+_, _*_, _-_, _/_, _%_, _^_, _≤_, _<_}
 use native.Mathlib.Nat.{div-eq-of-lt, div-eq-of-lt-le, lt-of-lt-of-le, mod-lt, pow-suc, zero-add}
-use native.Mathlib.Decide.{decLt, ℕ-discrete}
+use native.Mathlib.Decide.{ℕ-discrete}
 use native.Mathlib.Omega.{arith}
 use mathlib.Core.List.{List}
-use mathlib.Core.Bool.{Bool, true, false, not}
+use mathlib.Core.Bool.{Bool, true, false, not, Bool·not-not}
 use lib.Dec.{eqb}
 use lib.Pow.{field, mod-mod-pow, pow-add, pow-mono, pow-pos, shl-shr}
 use lib.Count.{leadingZeros, leading-length}
@@ -14,6 +14,7 @@ use lib.ListN.{getD, replicate, getD-replicate}
 use borrow.Author.Tests.{eq-eqb, ne-eqb, eqb-true, eqb-false}
 use Rattle.plane.specs.Sums.{one}
 use Rattle.plane.specs.Paint.{bit, bitIn, pack}
+use Rattle.plane.proofs.Tests.{by-lt}
 use Rattle.plane.proofs.BitLaws.{bit-pack, pack-bits, same-bits}
 use Rattle.plane.proofs.PaintLaws.{Bytes, cell, zero-bits}
 use Rattle.format.specs.Bytes.{u32At, u64At}
@@ -36,8 +37,7 @@ bit-not : (x : ℕ) → x < 256 → (i : ℕ) → i < 8 → bitIn (255 - x) i �
 bit-not x h i l = ap (λ (y : ℕ). bitIn (255 - y) i) (pack-bits x h) ∙ ap (λ (y : ℕ). bitIn y i) (pack-not (bitIn x)) ∙ bit-pack _ i l
 
 not-zero : (b v : Bool) → not b ≡ v → b ≡ not v
-not-zero true v e = ap not e
-not-zero false v e = ap not e
+not-zero b v e = sym (Bool·not-not b) ∙ ap not e
 
 run-differing : (x : ℕ) → x < 256 → (v : Bool) (a r : ℕ) → Run (bitIn (differing x v)) a 8 false r → Run (bitIn x) a 8 v r
 run-differing x h false a r o = o
@@ -86,32 +86,21 @@ ones-start z h l =
 
 -- the leading zeros of what is left end at the first one from number a on
 run-zeros : (y : ℕ) → y < 256 → (a : ℕ) → a < 8 → Run (bitIn y) a 8 false (leadingZeros 8 (y % 2 ^ (8 - a)))
-run-zeros y h a l = record {
-  start = begins;
-  end = omega (arith, t .1);
-  same = λ i b c. sym (kept y a i b (omega (arith, t .1))) ∙ zeros-end z small i c;
-  stops = λ c. sym (kept y a _ begins c) ∙ ones-start z small c;
-}
-  where
-    z : ℕ
-    z = y % 2 ^ (8 - a)
-
-    under : z < 2 ^ (8 - a)
-    under = mod-lt y (pow-pos (8 - a))
-
-    small : z < 256
-    small = lt-of-lt-of-le under (pow-mono {i = 8 - a} {j = 8} (omega arith))
-
-    t : (m : ℕ) × (leadingZeros 8 z + m ≡ 8) × (z < 2 ^ m) × (2 ^ m ≤ 2 * z + 1)
-    t = leading-length 8 z small
-
-    begins : a ≤ leadingZeros 8 z
-    begins =
-        by-cases (decLt (8 - a) (t .0))
-        (λ c.
-        let p : 2 ^ (8 - a) * 2 ≤ 2 ^ t .0 = subst (λ (x : ℕ). x ≤ 2 ^ t .0) (pow-suc 2 (8 - a)) (pow-mono c) in
-        absurd (omega (arith, t .3, under)))
-        (λ c. omega (arith, t .1))
+run-zeros y h a l =
+    let z = y % 2 ^ (8 - a) in
+    let under : z < 2 ^ (8 - a) = mod-lt y (pow-pos (8 - a)) in
+    let small : z < 256 = lt-of-lt-of-le under (pow-mono {i = 8 - a} {j = 8} (omega arith)) in
+    let t = leading-length 8 z small in
+    let begins : a ≤ leadingZeros 8 z =
+    by-lt (8 - a) (t .0)
+    (λ c. let p : 2 ^ (8 - a) * 2 ≤ 2 ^ t .0 = rw pow-suc at (pow-mono {i = suc (8 - a)} {j = t .0} c) in absurd (omega (arith, t .3, under)))
+    (λ c. omega (arith, t .1)) in
+    record {
+      start = begins;
+      end = omega (arith, t .1);
+      same = λ i b c. sym (kept y a i b (omega (arith, t .1))) ∙ zeros-end z small i c;
+      stops = λ c. sym (kept y a _ begins c) ∙ ones-start z small c;
+    }
 
 -- what is left of the bits that differ: its leading zeros end at the first such bit from number a on
 pub rest-pos : (a : ℕ) → a < 8 → 0 < 256 / 2 ^ a
@@ -137,7 +126,7 @@ full-lt false = omega arith
 -- a byte that is not such a byte has another bit
 not-full : (x : ℕ) → x < 256 → (v : Bool) (r : ℕ) → eqb x (full v) ≡ false → Run (bitIn x) 0 8 v r → r < 8
 not-full x h v r n o =
-    by-cases (decLt r 8) (λ l. l)
+    by-lt r 8 (λ l. l)
     (λ l. absurd (eqb-false x (full v) n (same-bits x (full v) h (full-lt v) (λ i c. o .same i (omega arith) (omega arith) ∙ sym (full-bits v i c)))))
 
 -- eight such bytes are such a word, and so it has no others
@@ -169,7 +158,7 @@ full-none m v k j a b = absurd (omega arith)
 
 -- and then eight, or one
 pub full-word-more : (m : List ℕ) → Bytes m → (v : Bool) {k i : ℕ} → Full m v k i → u64At m i ≡ fullWord v → Full m v k (i + 8)
-full-word-more m h v {k} {i} f e j a b = by-cases (decLt j i) (λ l. f j a l) (λ l. word-bytes m h v i e j (omega arith) b)
+full-word-more m h v {k} {i} f e j a b = by-lt j i (λ l. f j a l) (λ l. word-bytes m h v i e j (omega arith) b)
 
 pub full-byte-more : (m : List ℕ) (v : Bool) {k i : ℕ} → Full m v k i → getD m i 0 ≡ full v → Full m v k (i + 1)
 full-byte-more m v {k} {i} f e j a b = by-cases (ℕ-discrete j i) (λ z. ap (λ (n : ℕ). getD m n 0) z ∙ e) (λ n. f j a (omega arith))
@@ -218,10 +207,8 @@ module _ (m : List ℕ) {k j : ℕ} (e : ℕ) (v : Bool) (o : Run (λ i. eqb (ge
 
     pub run-in-last : Bytes m → r < e - 8 * j → Run (bit m) (8 * k) e v (8 * j + r)
     run-in-last h l =
-        run-on passed (omega (arith, o .start)) (run-stops (run-at m j (omega arith) q) (omega (arith, before)) (omega arith))
-      where
-        before : r < 8
-        before = by-cases (decLt r 8) (λ b. b) (λ b. not-full (getD m j 0) (h j) v r (o .stops (omega arith)) q)
+        let before : r < 8 = by-lt r 8 (λ b. b) (λ b. not-full (getD m j 0) (h j) v r (o .stops (omega arith)) q) in
+        run-on passed (omega (arith, o .start)) (run-stops (run-at m j (omega arith) q) (omega arith) (omega arith))
 
 -- a run from bit a of byte k on, through the byte's end
 pub run-through : (m : List ℕ) (k : ℕ) {a s e : ℕ} {v : Bool} {r r′ : ℕ} → s ≡ 8 * k + a → Run (bitIn (getD m k 0)) a 8 v r → 8 ≤ r

@@ -1,10 +1,9 @@
 -- Laws of a run: its end is one, it may be cut short, and it goes on behind values that are all the same.
 use mathlib.Core.Path.{_≡_, sym, _∙_}
-use mathlib.Core.Logic.{by-cases}
 use Prim.Native.Nat.{ℕ, _≤_, _<_}
-use native.Mathlib.Decide.{decLt}
 use native.Mathlib.Omega.{arith}
 use mathlib.Core.Bool.{Bool, true, false, not, true≢false}
+use Rattle.plane.proofs.Tests.{by-lt}
 use Rattle.runs.specs.Run.{Run}
 
 not-not-same : (v : Bool) → v ≡ not v → ⊥
@@ -14,8 +13,8 @@ not-not-same false e = true≢false (sym e)
 -- the end of a run is one
 pub run-only : {f : ℕ → Bool} {a e : ℕ} {v : Bool} {r r′ : ℕ} → Run f a e v r → Run f a e v r′ → r ≡ r′
 run-only {v = v} {r} {r′} x y =
-    by-cases (decLt r r′) (λ l. absurd (not-not-same v (sym (y .same r (x .start) l) ∙ x .stops (omega (arith, y .end)))))
-    (λ l. by-cases (decLt r′ r) (λ l′. absurd (not-not-same v (sym (x .same r′ (y .start) l′) ∙ y .stops (omega (arith, x .end))))) (λ l′. omega arith))
+    by-lt r r′ (λ l. absurd (not-not-same v (sym (y .same r (x .start) l) ∙ x .stops (omega (arith, y .end)))))
+    (λ l. by-lt r′ r (λ l′. absurd (not-not-same v (sym (x .same r′ (y .start) l′) ∙ y .stops (omega (arith, x .end))))) (λ l′. omega arith))
 
 -- where there is no number, the run ends at once
 pub run-empty : {f : ℕ → Bool} {a e : ℕ} {v : Bool} → a ≡ e → Run f a e v e
@@ -41,12 +40,5 @@ run-stops x l h = record { start = x .start; end = h; same = x .same; stops = λ
 
 -- values v, and then a run of v
 pub run-on : {f : ℕ → Bool} {a c e : ℕ} {v : Bool} {r : ℕ} → ((i : ℕ) → a ≤ i → i < c → f i ≡ v) → a ≤ c → Run f c e v r → Run f a e v r
-run-on {f} {a} {c} {v = v} {r = r} s l x = record {
-  start = omega arith;
-  end = x .end;
-  same = go;
-  stops = x .stops;
-}
-  where
-    go : (i : ℕ) → a ≤ i → i < r → f i ≡ v
-    go i b h = by-cases (decLt i c) (λ d. s i b d) (λ d. x .same i (omega arith) h)
+run-on {c = c} s l x =
+    record { start = omega arith; end = x .end; same = λ i b h. by-lt i c (λ d. s i b d) (λ d. x .same i d h); stops = x .stops }

@@ -10,7 +10,8 @@ returns : tie.Need-returns
 returns c =
     let u = c .before .before .before .before .before in
     let k = u .before .before .before .before in
-    fill-uniform _ _ (k .args .bg .now) (k .args .target .now) _ (k .pre .bytes) (k .pre .pixel) (u .before .uniform .ensures .0 (u .if1 .taken)) (c .before .before .fill-byte .ensures)
+    fill-uniform _ _ (k .args .bg .now) (k .args .target .now) _ (k .pre .bytes) (k .pre .pixel)
+    (u .before .uniform .ensures .0 (u .if1 .taken)) (c .before .before .fill-byte .ensures)
 
 -- the first pixel lies in the target
 first-fits : (c : tie.Else2) → let a = c .before .before .before .before .before .args in a .b ≤ a .n * a .b
