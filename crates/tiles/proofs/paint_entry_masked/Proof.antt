@@ -7,7 +7,8 @@ use Rattle.tiles.proofs.paint_entry_masked.Tie as tie
 
 paint-behind-requires : tie.Need-paint-behind-requires
 paint-behind-requires c κs =
-    let a = c .before .before .before .before .before .before .before in
+    let k = c .before .before .before in
+    let a = k .before .before .before .before in
     (a .pre .0, lines-room _ (mask-lined (a .pre .1 .0) (a .pre .1 .1)) (omega arith))
 
 returns : tie.Need-returns
