@@ -38,7 +38,7 @@ VOID = (
     "explicit arguments more than",
 )
 # What omega says where it has numbers at which everything known holds and the goal does not.
-NUMBERS = "All of that holds, and the goal fails"
+NUMBERS = "All of that holds, and"
 
 
 class Guard:
@@ -85,9 +85,12 @@ def read_edit(path):
     return guards, faults
 
 
-def all_guards(root=ROOT):
+def all_guards(only=()):
+    """The guards of some crates, or of all where none is named, and what is wrong with their files."""
     guards, faults = [], []
-    for path in sorted(root.glob("crates/*/must-fail/*.edit")):
+    for path in sorted(ROOT.glob("crates/*/must-fail/*.edit")):
+        if only and path.parents[1].name not in only:
+            continue
         found, wrong = read_edit(path)
         guards += found
         faults += wrong

@@ -17,6 +17,9 @@ returns-3 c = above _ _ (omega arith)
 returns-4 : tie.Need-returns-4
 returns-4 c = under _ _ (omega arith)
 
+returns-5 : tie.Need-returns-5
+returns-5 c = meeting _ _ (omega arith) (omega arith) (omega arith) (omega arith)
+
 pub meets-window-spec : {M : Type 1} → statement M
 meets-window-spec =
     tie.close
@@ -29,4 +32,4 @@ meets-window-spec =
     returns-3
     (λ c. search needs)
     returns-4
-    (λ c. meeting _ _ (omega arith) (omega arith) (omega arith) (omega arith)))
+    returns-5)
