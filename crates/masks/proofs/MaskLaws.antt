@@ -1,15 +1,16 @@
 -- What a chunk and a mask that are not refused have, and where a mask's bits lie. Assumes nothing.
-use Prim.Native.Nat.{ℕ, zero, suc, _+_, _*_, _/_, _≤_, _<_}
+use Prim.Native.Nat.{ℕ, zero, suc, _+_, _-_, _*_, _/_, _%_, _^_, _≤_, _<_}
 use mathlib.Core.Path.{_≡_, sym}
 use mathlib.Core.List.{List, [], _∷_}
 use mathlib.Core.Bool.{Bool, true, false, true≢false}
 use native.Mathlib.Omega.{arith}
 use native.Mathlib.Nat.{mul-le-mul-right}
 use lib.ListN.{length, getD}
+use lib.Dec.{eqb}
 use borrow.Author.Tests.{ltb-false}
 use Rattle.format.specs.Bytes.{anyOf}
-use Rattle.format.specs.Masks.{chunkSize, isMask, maskWidth, maskHeight, maskStride, maskBad, maskByte}
-use Rattle.format.proofs.Flags.{any-here, any-later}
+use Rattle.format.specs.Masks.{chunkSize, isMask, maskWidth, maskHeight, maskStride, maskBad, maskByte, maskValid}
+use Rattle.format.proofs.Flags.{any-here, any-later, lt-yes′}
 use Rattle.format.proofs.Below.{none}
 use Rattle.format.proofs.ChunkWalk.{Chunked}
 
@@ -50,3 +51,9 @@ byte-read bs c x y w h r e l i j k m n =
     let f = mask-fits bs c e in
     let p = pixel-within x y (maskWidth bs c) (maskHeight bs c) (maskStride bs c) (omega arith) (f .columns) (omega arith) in
     rw n (omega (arith, f .lines, p))
+
+-- its bit: b is the byte that was read there
+pub bit-read : (bs : List ℕ) (c x y w h r b : ℕ) → w ≡ maskWidth bs c → x < w → h ≡ maskHeight bs c → y < h → r ≡ maskStride bs c
+    → b ≡ getD bs (c + 36 + y * r + x / 8) 0 → eqb (b / 2 ^ (7 - x % 8) % 2) 1 ≡ maskValid bs c x y
+unfolding maskValid
+bit-read bs c x y w h r b i j k m n o = rw (← byte-place, ← n, ← o, lt-yes′ _ _ _ i j, lt-yes′ _ _ _ k m)

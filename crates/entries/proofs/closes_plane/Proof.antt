@@ -5,12 +5,19 @@ use Rattle.format.proofs.Flags.{flags}
 use Rattle.entries.proofs.closes_plane.Statement.{statement}
 use Rattle.entries.proofs.closes_plane.Tie as tie
 
-pub closes-plane-spec : {M : Type 1} → statement M
+returns : tie.Need-returns
 unfolding closesPlane
+returns c = search flags depth 8
+
+returns-2 : tie.Need-returns-2
+unfolding closesPlane
+returns-2 c = search flags depth 8
+
+pub closes-plane-spec : {M : Type 1} → statement M
 closes-plane-spec =
     tie.close
     (tie.spec
     (λ c κs. search needs)
     (λ c κs. search needs)
-    (λ c. search flags depth 8)
-    (λ c. search flags depth 8))
+    returns
+    returns-2)

@@ -5,6 +5,14 @@ use Rattle.format.proofs.Flags.{flags, any-later}
 use Rattle.entries.proofs.dimension_bad.Statement.{statement}
 use Rattle.entries.proofs.dimension_bad.Tie as tie
 
+returns-3 : tie.Need-returns-3
+unfolding dimensionBad
+returns-3 c = search flags depth 8
+
+returns-5 : tie.Need-returns-5
+unfolding dimensionBad
+returns-5 c = search flags depth 8
+
 pub dimension-bad-spec : {M : Type 1} → statement M
 unfolding dimensionBad
 dimension-bad-spec =
@@ -15,7 +23,7 @@ dimension-bad-spec =
     (λ c κs. search needs)
     (λ c. search flags depth 8)
     (λ c κs. search needs)
-    (λ c. search flags depth 8)
+    returns-3
     (λ c κs. search needs)
     (λ c. any-later _ _ (any-later _ _ (any-later _ _ (search flags depth 8))))
-    (λ c. search flags depth 8))
+    returns-5)

@@ -6,6 +6,22 @@ use Rattle.format.proofs.Flags.{flags}
 use Rattle.entries.proofs.head_bad.Statement.{statement}
 use Rattle.entries.proofs.head_bad.Tie as tie
 
+returns : tie.Need-returns
+unfolding headBad markTile
+returns c = search flags depth 8
+
+returns-2 : tie.Need-returns-2
+unfolding headBad markTile
+returns-2 c = search flags depth 8
+
+returns-3 : tie.Need-returns-3
+unfolding headBad markTile
+returns-3 c = search flags depth 8
+
+returns-4 : tie.Need-returns-4
+unfolding headBad markTile
+returns-4 c = search flags depth 8
+
 pub head-bad-spec : {M : Type 1} → statement M
 unfolding headBad markTile
 head-bad-spec =
@@ -13,8 +29,8 @@ head-bad-spec =
     (tie.spec
     (λ c. search needs)
     (λ c κs. search needs)
-    (λ c. search flags depth 8)
+    returns
     (λ c κs. search needs)
-    (λ c. search flags depth 8)
-    (λ c. search flags depth 8)
-    (λ c. search flags depth 8))
+    returns-2
+    returns-3
+    returns-4)

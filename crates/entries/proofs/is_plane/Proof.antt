@@ -4,6 +4,10 @@ use Rattle.format.proofs.Flags.{flags}
 use Rattle.entries.proofs.is_plane.Statement.{statement}
 use Rattle.entries.proofs.is_plane.Tie as tie
 
+returns-2 : tie.Need-returns-2
+unfolding isPlane
+returns-2 c = search flags depth 8
+
 pub is-plane-spec : {M : Type 1} → statement M
 unfolding isPlane
-is-plane-spec = tie.close (tie.spec (λ c. search flags depth 8) (λ c. search flags depth 8) (λ c. search flags depth 8))
+is-plane-spec = tie.close (tie.spec (λ c. search flags depth 8) returns-2 (λ c. search flags depth 8))

@@ -6,6 +6,14 @@ use Rattle.entries.proofs.EntryLaws.{size-other, size-same, x-in, y-in}
 use Rattle.entries.proofs.is_pyramid.Statement.{statement}
 use Rattle.entries.proofs.is_pyramid.Tie as tie
 
+returns : tie.Need-returns
+unfolding isPyramid
+returns c = search (flags, size-other, size-same) depth 8
+
+returns-2 : tie.Need-returns-2
+unfolding isPyramid
+returns-2 c = search (flags, size-other, size-same) depth 8
+
 pub is-pyramid-spec : {M : Type 1} → statement M
 unfolding isPyramid
 is-pyramid-spec =
@@ -14,9 +22,9 @@ is-pyramid-spec =
     (λ c κs. search needs)
     (λ c κs. search x-in)
     (λ c κs. search x-in)
-    (λ c. search (flags, size-other, size-same) depth 8)
+    returns
     (λ c κs. search needs)
     (λ c κs. search y-in)
     (λ c κs. search y-in)
-    (λ c. search (flags, size-other, size-same) depth 8)
+    returns-2
     (λ c. search (flags, size-same) depth 8))

@@ -5,12 +5,23 @@ use Rattle.format.proofs.Flags.{flags}
 use Rattle.entries.proofs.letter_bad.Statement.{statement}
 use Rattle.entries.proofs.letter_bad.Tie as tie
 
-pub letter-bad-spec : {M : Type 1} → statement M
+returns : tie.Need-returns
 unfolding letterBad
+returns c = search flags depth 8
+
+returns-2 : tie.Need-returns-2
+unfolding letterBad
+returns-2 c = search flags depth 8
+
+returns-3 : tie.Need-returns-3
+unfolding letterBad
+returns-3 c = search flags depth 8
+
+pub letter-bad-spec : {M : Type 1} → statement M
 letter-bad-spec =
     tie.close
     (tie.spec
     (λ c κs. search needs)
-    (λ c. search flags depth 8)
-    (λ c. search flags depth 8)
-    (λ c. search flags depth 8))
+    returns
+    returns-2
+    returns-3)

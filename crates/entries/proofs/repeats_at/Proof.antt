@@ -4,6 +4,10 @@ use Rattle.format.specs.Entry.{repeats}
 use Rattle.entries.proofs.repeats_at.Statement.{statement}
 use Rattle.entries.proofs.repeats_at.Tie as tie
 
+returns : tie.Need-returns
+unfolding repeats
+returns c = rw (← c .before .before .dimension-place .ensures, ← c .before .letter-at .ensures .0) (c .holds-below .ensures)
+
 pub repeats-at-spec : {M : Type 1} → statement M
 unfolding repeats
 repeats-at-spec =
@@ -12,4 +16,4 @@ repeats-at-spec =
     (λ c κs. search needs)
     (λ c κs. search needs)
     (λ c κs. search needs)
-    (λ c. rw (← c .before .before .dimension-place .ensures, ← c .before .letter-at .ensures .0) (c .holds-below .ensures)))
+    returns)

@@ -5,6 +5,26 @@ use Rattle.format.proofs.Flags.{flags}
 use Rattle.entries.proofs.size_bad.Statement.{statement}
 use Rattle.entries.proofs.size_bad.Tie as tie
 
+returns : tie.Need-returns
+unfolding sizeBad
+returns c = rw (← c .before .before .before .before .letter-at .ensures .0) (search flags depth 8)
+
+returns-2 : tie.Need-returns-2
+unfolding sizeBad
+returns-2 c = rw (← c .before .before .before .before .before .letter-at .ensures .0) (search flags depth 8)
+
+returns-3 : tie.Need-returns-3
+unfolding sizeBad
+returns-3 c = rw (← c .before .before .before .before .before .letter-at .ensures .0) (search flags depth 8)
+
+returns-4 : tie.Need-returns-4
+unfolding sizeBad
+returns-4 c = rw (← c .before .before .before .before .letter-at .ensures .0) (search flags depth 8)
+
+returns-5 : tie.Need-returns-5
+unfolding sizeBad
+returns-5 c = rw (← c .before .before .before .before .before .before .letter-at .ensures .0) (search flags depth 8)
+
 pub size-bad-spec : {M : Type 1} → statement M
 unfolding sizeBad
 size-bad-spec =
@@ -13,10 +33,10 @@ size-bad-spec =
     (λ c κs. search needs)
     (λ c κs. search needs)
     (λ c κs. search needs)
-    (λ c. rw (← c .before .before .before .before .letter-at .ensures .0) (search flags depth 8))
-    (λ c. rw (← c .before .before .before .before .before .letter-at .ensures .0) (search flags depth 8))
-    (λ c. rw (← c .before .before .before .before .before .letter-at .ensures .0) (search flags depth 8))
-    (λ c. rw (← c .before .before .before .before .letter-at .ensures .0) (search flags depth 8))
+    returns
+    returns-2
+    returns-3
+    returns-4
     (λ c κs. search needs)
-    (λ c. rw (← c .before .before .before .before .before .before .letter-at .ensures .0) (search flags depth 8))
+    returns-5
     (λ c. rw (← c .before .before .before .before .before .before .letter-at .ensures .0) (search flags depth 8)))

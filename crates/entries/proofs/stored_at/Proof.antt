@@ -5,6 +5,10 @@ use Rattle.format.proofs.Flags.{flags}
 use Rattle.entries.proofs.stored_at.Statement.{statement}
 use Rattle.entries.proofs.stored_at.Tie as tie
 
+returns : tie.Need-returns
+unfolding stored
+returns c = search flags depth 8
+
 pub stored-at-spec : {M : Type 1} → statement M
 unfolding stored
 stored-at-spec =
@@ -12,5 +16,5 @@ stored-at-spec =
     (tie.spec
     (λ c κs. search needs)
     (λ c κs. search needs)
-    (λ c. search flags depth 8)
+    returns
     (λ c. search flags depth 8))

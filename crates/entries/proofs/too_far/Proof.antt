@@ -6,6 +6,14 @@ use Rattle.entries.proofs.EntryLaws.{far, near}
 use Rattle.entries.proofs.too_far.Statement.{statement}
 use Rattle.entries.proofs.too_far.Tie as tie
 
+returns : tie.Need-returns
+unfolding biased
+returns c = search far
+
+returns-2 : tie.Need-returns-2
+unfolding biased
+returns-2 c = search near
+
 pub too-far-spec : {M : Type 1} → statement M
 unfolding biased
 too-far-spec =
@@ -15,5 +23,5 @@ too-far-spec =
     (λ c κs. search needs)
     (λ c κs. search needs)
     (λ c. omega arith)
-    (λ c. search far)
-    (λ c. search near))
+    returns
+    returns-2)

@@ -12,16 +12,32 @@ use Rattle.masks.proofs.chunk_bad.Tie as tie
 chunk-size-requires : tie.Need-chunk-size-requires
 chunk-size-requires c κs = search needs
 
+returns : tie.Need-returns
+unfolding chunkBad nextChunk
+returns c = let a = c .before .before .args in let short : a .end < a .c + 20 = omega arith in any-at _ 0 (lt-ltb _ _ short)
+
+returns-2 : tie.Need-returns-2
+unfolding chunkBad nextChunk
+returns-2 c = search flags depth 8
+
+returns-3 : tie.Need-returns-3
+unfolding chunkBad nextChunk
+returns-3 c = rw (← c .before .before .chunk-size .ensures .0) (search flags depth 8)
+
+returns-4 : tie.Need-returns-4
+unfolding chunkBad nextChunk
+returns-4 c = rw (← c .before .before .chunk-size .ensures .0) (search flags depth 8)
+
 pub chunk-bad-spec : {M : Type 1} → statement M
 unfolding chunkBad nextChunk
 chunk-bad-spec =
     tie.close
     (tie.spec
     (λ c. search needs)
-    (λ c. let a = c .before .before .args in let short : a .end < a .c + 20 = omega arith in any-at _ 0 (lt-ltb _ _ short))
+    returns
     chunk-size-requires
-    (λ c. search flags depth 8)
+    returns-2
     (λ c. search needs)
     (λ c. search needs)
-    (λ c. rw (← c .before .before .chunk-size .ensures .0) (search flags depth 8))
-    (λ c. rw (← c .before .before .chunk-size .ensures .0) (search flags depth 8)))
+    returns-3
+    returns-4)

@@ -28,9 +28,37 @@ module _ (r a q b : ℕ) (e : r ≡ a) (f : q ≡ b) where
     lines-in : 16 + r * q ≤ z → ltb n (16 + a * b) ≡ false
     lines-in h = rw (← e, ← f, ← g) (le-ltb z (16 + r * q) h)
 
+returns : tie.Need-returns
+unfolding maskBad representation
+returns c = search flags depth 9
+
+returns-2 : tie.Need-returns-2
+unfolding maskBad representation
+returns-2 c = search flags depth 9
+
+returns-3 : tie.Need-returns-3
+unfolding maskBad representation
+returns-3 c = search flags depth 9
+
+returns-4 : tie.Need-returns-4
+unfolding maskBad representation
+returns-4 c = search flags depth 9
+
+returns-5 : tie.Need-returns-5
+unfolding maskBad representation
+returns-5 c = search flags depth 9
+
 returns-6 : tie.Need-returns-6
 unfolding maskBad
 returns-6 c = any-at _ 5 (search columns-over)
+
+returns-7 : tie.Need-returns-7
+unfolding maskBad representation
+returns-7 c = any-at _ 6 (search lines-over)
+
+returns-8 : tie.Need-returns-8
+unfolding maskBad representation
+returns-8 c = search (any-skip, any-none, lt-no, le-no′, not-is-false, eq-yes, columns-in, lines-in) depth 10
 
 pub mask-bad-spec : {M : Type 1} → statement M
 unfolding maskBad representation
@@ -38,19 +66,19 @@ mask-bad-spec =
     tie.close
     (tie.spec
     (λ c κs. search needs)
-    (λ c. search flags depth 9)
+    returns
     (λ c κs. search needs)
-    (λ c. search flags depth 9)
+    returns-2
     (λ c κs. search needs)
-    (λ c. search flags depth 9)
+    returns-3
     (λ c. search needs)
     (λ c κs. search needs)
-    (λ c. search flags depth 9)
+    returns-4
     (λ c κs. search needs)
-    (λ c. search flags depth 9)
+    returns-5
     (λ c. search needs)
     returns-6
     (λ c. omega (arith, below 31 (c .before .if5 .left) (c .before .before .before .before .before .if3 .left)))
     (λ c. omega (arith, below 31 (c .before .if5 .left) (c .before .before .before .before .before .if3 .left)))
-    (λ c. any-at _ 6 (search lines-over))
-    (λ c. search (any-skip, any-none, lt-no, le-no′, not-is-false, eq-yes, columns-in, lines-in) depth 10))
+    returns-7
+    returns-8)

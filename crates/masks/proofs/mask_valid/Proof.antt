@@ -6,7 +6,7 @@ use lib.ListN.{length}
 use borrow.Author.Needs.{needs}
 use Rattle.format.specs.Masks.{maskValid}
 use Rattle.format.proofs.Flags.{flags}
-use Rattle.masks.proofs.MaskLaws.{mask-fits, byte-place, byte-read}
+use Rattle.masks.proofs.MaskLaws.{mask-fits, byte-read, bit-read}
 use Rattle.masks.proofs.mask_valid.Statement.{statement}
 use Rattle.masks.proofs.mask_valid.Tie as tie
 
@@ -16,9 +16,12 @@ byte-in : (c : tie.After-mask-stride)
     a .c + 36 + a .y * c .mask-stride .result + a .x / 8 < length (now (a .s))
 byte-in c = search byte-read
 
-returns-3 : tie.Need-returns-3
+returns : tie.Need-returns
 unfolding maskValid
-returns-3 c = rw (← byte-place, ← c .before .mask-stride .ensures .0, ← c .byte-at .ensures .0) (search flags depth 8)
+returns c = search flags depth 8
+
+returns-3 : tie.Need-returns-3
+returns-3 c = search bit-read
 
 pub mask-valid-spec : {M : Type 1} → statement M
 unfolding maskValid
@@ -26,7 +29,7 @@ mask-valid-spec =
     tie.close
     (tie.spec
     (λ c κs. omega (arith, mask-fits _ _ (c .before .pre .0) .fields))
-    (λ c. search flags depth 8)
+    returns
     (λ c κs. omega (arith, mask-fits _ _ (c .before .before .before .pre .0) .fields))
     (λ c. search flags depth 8)
     (λ c κs. omega (arith, mask-fits _ _ (c .before .before .before .before .before .pre .0) .fields))

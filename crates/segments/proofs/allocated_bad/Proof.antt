@@ -6,12 +6,23 @@ use Rattle.segments.proofs.Leaves.{whole-yes, whole-no}
 use Rattle.segments.proofs.allocated_bad.Statement.{statement}
 use Rattle.segments.proofs.allocated_bad.Tie as tie
 
-pub allocated-bad-spec : {M : Type 1} → statement M
+returns : tie.Need-returns
 unfolding allocatedBad
+returns c = search (flags, whole-yes, whole-no) depth 8
+
+returns-2 : tie.Need-returns-2
+unfolding allocatedBad
+returns-2 c = search (flags, whole-yes, whole-no) depth 8
+
+returns-3 : tie.Need-returns-3
+unfolding allocatedBad
+returns-3 c = search (flags, whole-yes) depth 8
+
+pub allocated-bad-spec : {M : Type 1} → statement M
 allocated-bad-spec =
     tie.close
     (tie.spec
     (λ c κs. search needs)
-    (λ c. search (flags, whole-yes, whole-no) depth 8)
-    (λ c. search (flags, whole-yes, whole-no) depth 8)
-    (λ c. search (flags, whole-yes) depth 8))
+    returns
+    returns-2
+    returns-3)

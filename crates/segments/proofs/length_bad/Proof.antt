@@ -4,12 +4,27 @@ use Rattle.format.specs.Segments.{lengthBad}
 use Rattle.segments.proofs.length_bad.Statement.{statement}
 use Rattle.segments.proofs.length_bad.Tie as tie
 
-pub length-bad-spec : {M : Type 1} → statement M
+returns : tie.Need-returns
 unfolding lengthBad
+returns c = search flags depth 8
+
+returns-2 : tie.Need-returns-2
+unfolding lengthBad
+returns-2 c = search flags depth 8
+
+returns-3 : tie.Need-returns-3
+unfolding lengthBad
+returns-3 c = search flags depth 8
+
+returns-4 : tie.Need-returns-4
+unfolding lengthBad
+returns-4 c = search flags depth 8
+
+pub length-bad-spec : {M : Type 1} → statement M
 length-bad-spec =
     tie.close
     (tie.spec
-    (λ c. search flags depth 8)
-    (λ c. search flags depth 8)
-    (λ c. search flags depth 8)
-    (λ c. search flags depth 8))
+    returns
+    returns-2
+    returns-3
+    returns-4)

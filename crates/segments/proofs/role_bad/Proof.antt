@@ -5,14 +5,29 @@ use Rattle.format.specs.Segments.{roleBad}
 use Rattle.segments.proofs.role_bad.Statement.{statement}
 use Rattle.segments.proofs.role_bad.Tie as tie
 
-pub role-bad-spec : {M : Type 1} → statement M
+returns : tie.Need-returns
 unfolding roleBad
+returns c = search flags depth 8
+
+returns-2 : tie.Need-returns-2
+unfolding roleBad
+returns-2 c = search flags depth 8
+
+returns-3 : tie.Need-returns-3
+unfolding roleBad
+returns-3 c = search flags depth 8
+
+returns-4 : tie.Need-returns-4
+unfolding roleBad
+returns-4 c = search flags depth 8
+
+pub role-bad-spec : {M : Type 1} → statement M
 role-bad-spec =
     tie.close
     (tie.spec
     (λ c κs. search needs)
-    (λ c. search flags depth 8)
-    (λ c. search flags depth 8)
+    returns
+    returns-2
     (λ c κs. search needs)
-    (λ c. search flags depth 8)
-    (λ c. search flags depth 8))
+    returns-3
+    returns-4)

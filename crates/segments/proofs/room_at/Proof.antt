@@ -5,6 +5,10 @@ use Rattle.format.specs.Segments.{room}
 use Rattle.segments.proofs.room_at.Statement.{statement}
 use Rattle.segments.proofs.room_at.Tie as tie
 
+returns : tie.Need-returns
+unfolding room
+returns c = search flags depth 8
+
 pub room-at-spec : {M : Type 1} → statement M
 unfolding room
 room-at-spec =
@@ -12,5 +16,5 @@ room-at-spec =
     (tie.spec
     (λ c κs. search needs)
     (λ c κs. search needs)
-    (λ c. search flags depth 8)
+    returns
     (λ c. search flags depth 8))

@@ -5,6 +5,10 @@ use Rattle.format.specs.Segments.{sizesBad}
 use Rattle.segments.proofs.sizes_bad.Statement.{statement}
 use Rattle.segments.proofs.sizes_bad.Tie as tie
 
+returns-3 : tie.Need-returns-3
+unfolding sizesBad
+returns-3 c = search flags depth 8
+
 pub sizes-bad-spec : {M : Type 1} → statement M
 unfolding sizesBad
 sizes-bad-spec =
@@ -15,4 +19,4 @@ sizes-bad-spec =
     (λ c κs. search needs)
     (λ c. search flags depth 8)
     (λ c κs. search needs)
-    (λ c. search flags depth 8))
+    returns-3)

@@ -6,13 +6,24 @@ use Rattle.segments.proofs.Leaves.{lt-both, le-both}
 use Rattle.segments.proofs.used_bad.Statement.{statement}
 use Rattle.segments.proofs.used_bad.Tie as tie
 
-pub used-bad-spec : {M : Type 1} → statement M
+returns : tie.Need-returns
 unfolding usedBad
+returns c = search (flags, lt-both, le-both) depth 8
+
+returns-2 : tie.Need-returns-2
+unfolding usedBad
+returns-2 c = search (flags, lt-both, le-both) depth 8
+
+returns-3 : tie.Need-returns-3
+unfolding usedBad
+returns-3 c = search (flags, le-both) depth 8
+
+pub used-bad-spec : {M : Type 1} → statement M
 used-bad-spec =
     tie.close
     (tie.spec
     (λ c κs. search needs)
-    (λ c. search (flags, lt-both, le-both) depth 8)
+    returns
     (λ c κs. search needs)
-    (λ c. search (flags, lt-both, le-both) depth 8)
-    (λ c. search (flags, le-both) depth 8))
+    returns-2
+    returns-3)
