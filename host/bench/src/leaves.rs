@@ -2,7 +2,7 @@
 
 use crate::mosaic::{grid, named_often, Mosaic, TileMask};
 use crate::probe;
-use crate::timing::{least, time, Rounds};
+use crate::timing::{least, time, Rounds, Side};
 use czi::PixelType;
 use std::hint::black_box;
 use std::time::Duration;
@@ -33,7 +33,9 @@ pub const VIEWS: [(&str, fn(&[u8]) -> usize); 5] = [
     ("metadata", |file| view(czi::tile_metadata(file, 4095))),
     ("attachment", |file| view(czi::tile_attachment(file, 4095))),
     ("common XML", |file| view(czi::common_xml(file))),
-    ("common attachment", |file| view(czi::common_attachment(file))),
+    ("common attachment", |file| {
+        view(czi::common_attachment(file))
+    }),
 ];
 
 fn view(part: Result<&[u8], czi::Refusal>) -> usize {
@@ -42,15 +44,20 @@ fn view(part: Result<&[u8], czi::Refusal>) -> usize {
 
 /// Judges 4,096 tiles, each with a mask, and asks for each of the views.
 pub fn views(rounds: Rounds) -> ([Duration; 5], Duration) {
-    let file = Mosaic::new(PixelType::Gray8, &grid(64, 16, 16, TileMask::AllValid), 4094).bytes;
+    let file = Mosaic::new(
+        PixelType::Gray8,
+        &grid(64, 16, 16, TileMask::AllValid),
+        4094,
+    )
+    .bytes;
     let judge = |_: &mut ()| time(|| czi::judge(black_box(&file)).expect("an accepted file"));
     let ask = |n: usize| {
         let file = &file;
         move |_: &mut ()| time(|| assert!(black_box(VIEWS[n].1(black_box(file))) < file.len()))
     };
     let asks = [ask(0), ask(1), ask(2), ask(3), ask(4)];
-    let sides = [&judge as _, &asks[0], &asks[1], &asks[2], &asks[3], &asks[4]];
-    let [judged, views @ ..] = least(rounds, &mut (), sides);
+    let sides: [Side<()>; 6] = [&judge, &asks[0], &asks[1], &asks[2], &asks[3], &asks[4]];
+    let [judged, views @ ..]: [Duration; 6] = least(rounds, &mut (), sides);
     (views, judged)
 }
 

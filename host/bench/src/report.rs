@@ -116,7 +116,8 @@ impl Report {
         let (views, judged) = leaves::views(rounds);
         for ((name, _), took) in leaves::VIEWS.iter().zip(views) {
             let measure = format!("view of 4,096 tiles, {name} / judge");
-            self.limits.push(Line::new(measure, took, judged).at_most(1.1));
+            self.limits
+                .push(Line::new(measure, took, judged).at_most(1.1));
         }
         if all {
             self.others
