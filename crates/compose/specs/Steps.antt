@@ -93,8 +93,8 @@ pub record KeyRoom (t m bs table : List ℕ) (key : ℕ) (on : Bool) (w : Rect) 
   pub paint : PaintRoom t m bs (keyPlace table key) bs (filePosition bs (keyPlace table key)) on w
 
 -- what its turn does
-pub record KeyPainted (t m bs table : List ℕ) (key : ℕ) (on : Bool) (w : Rect) (q : Bool) (t′ m′ : List ℕ) (r : ℕ) : Type 0 where
-  pub painted : Painted t m bs (keyPlace table key) bs (filePosition bs (keyPlace table key)) on w q t′ m′ r
+pub record KeyPainted (t m bs table : List ℕ) (key : ℕ) (on : Bool) (w : Rect) (quick : Bool) (t′ m′ : List ℕ) (r : ℕ) : Type 0 where
+  pub painted : Painted t m bs (keyPlace table key) bs (filePosition bs (keyPlace table key)) on w quick t′ m′ r
 
 -- the tiles in the order of each kind's turns, along rising keys
 abbrev pub turnOrder : Kind → List Tile → List Tile
@@ -141,6 +141,7 @@ pub record PlaneDone (k : Kind) (t m : List ℕ) (ch : Choice) (table background
 abbrev pub asked : List ℕ → List ℤ → Bool → WindowRequest → List ℕ → Asked
 asked bs starts anyScene f background = record { scan = scanOf bs; starts = starts; anyScene = anyScene; request = f; background = background }
 
+-- what of it chooses tiles and says how they are painted
 abbrev pub choice : List ℕ → List ℤ → Bool → WindowRequest → Choice
 choice bs starts anyScene f = record { scan = scanOf bs; starts = starts; anyScene = anyScene; masks = masksOn (f .masks) }
 

@@ -1,4 +1,4 @@
--- The rows of an entry in the order of judging it, the flags by which the chunks of a sub-block are judged once, however many entries name it, and what judging
+-- The rows of an entry behind its head, the flags by which the chunks of a sub-block are judged once, however many entries name it, and what judging
 -- an entry answers with them. The flags are those of the file that holds the sub-blocks.
 use Prim.Native.Nat.{ℕ, _+_, _<_}
 use mathlib.Core.Path.{_≡_}

@@ -29,7 +29,7 @@ covered (t ∷ ts) u v = t .gives u v || covered ts u v
 
 -- ---- a rectangle of the plane: the window, or where a tile lies
 
--- a rectangle covers the plane pixel (u, v) when column and row are at least 0 and under width and height
+-- a rectangle covers the plane pixel (u, v), masks aside, when column and row are at least 0 and under width and height
 unfoldable pub covers : Rect → ℕ → ℕ → Bool
 covers a u v = (leb (a .left) u && ltb u (a .left + a .width)) && (leb (a .top) v && ltb v (a .top + a .height))
 

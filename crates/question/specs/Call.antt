@@ -42,7 +42,11 @@ chosen a = chooses (choiceOf a)
 
 -- the refusals in their order: the file's own, then 20, 21, 22, then 23; of lent bytes of these lengths
 unfoldable pub callVerdict : Asked → ℕ → ℕ → Verdict
-callVerdict a target map = first (checks (a .scan) ++ (askRows (a .request) (a .background) target map ++ agreeRows (a .scan .file) (chosen a) (requestWindow (a .request)) (a .request .«pixel_type»)))
+callVerdict a target map =
+    first
+    (checks (a .scan) ++
+    (askRows (a .request) (a .background) target map ++
+    agreeRows (a .scan .file) (chosen a) (requestWindow (a .request)) (a .request .«pixel_type»)))
 
 -- the window, bytes a pixel, and the selected tiles
 abbrev pub askedWindow : Asked → Rect

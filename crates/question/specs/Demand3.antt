@@ -12,7 +12,8 @@ use Rattle.plane.specs.Turns.{Painting, Kind, plain, quick, added}
 use Rattle.plane.specs.Demand2.{Plane}
 use Rattle.plane.specs.Cuts.{Line, column, row, Cuts, fore, rear, Halves, SamePixels}
 use Rattle.plane.specs.Demand3 as Runs
-use Rattle.question.specs.Call.{Asked, callVerdict, askedWindow, askedBytes, selected, painted, answer, targetAfter, mapAfter, numberIn, placeIn, coveredIn, storedIn, Answered}
+use Rattle.question.specs.Call.{Asked, callVerdict, askedWindow, askedBytes, selected, painted}
+use Rattle.question.specs.Call.{answer, targetAfter, mapAfter, numberIn, placeIn, coveredIn, storedIn, Answered}
 use Rattle.question.specs.declared.WindowRequest.{WindowRequest}
 use Rattle.question.specs.declared.Composed.{Composed}
 
@@ -68,7 +69,8 @@ pub record Demand3 (a : Asked) (t m : List ℕ) : Type 0 where
       × (storedIn (answer k a t m) ≡ sum (length (selected a)) (added k (askedWindow a) (askedBytes a) (a .background) (selected a) t m))
   -- the store counts: the quick one's is the covered count, the plain one's the sum of the selected tiles' unmasked pixels in the window
   pub quick-stores : storedIn (answer quick a t m) ≡ coveredIn (answer quick a t m)
-  pub plain-stores : callVerdict a (length t) (length m) ≡ Accepted → storedIn (answer plain a t m) ≡ sumOver (selected a) (λ s. within (askedWindow a) (s .gives))
+  pub plain-stores : callVerdict a (length t) (length m) ≡ Accepted
+      → storedIn (answer plain a t m) ≡ sumOver (selected a) (λ s. within (askedWindow a) (s .gives))
   -- no two selected tiles have one rank, and so of both composers' whole lists of turns holds all that demand 3 says of them:
   -- each turn of the quick one changes only pixels not yet covered, and of all its turns at most one gives a pixel
   pub ranked : callVerdict a (length t) (length m) ≡ Accepted → Ranked (selected a)

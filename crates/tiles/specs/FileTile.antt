@@ -58,11 +58,11 @@ entryTile ds on k e bs q = record {
 unfoldable pub fileTile : Choice → ℕ → Tile
 fileTile ch k = entryTile (ch .scan .file) (ch .masks) k (tileEntry (ch .scan) k) (tileFile (ch .scan) k) (tilePosition (ch .scan) k)
 
--- the tiles of the chosen entries below n
+-- the tiles of the entries below n that `chosen` takes, painted as ch says
 unfoldable pub tilesBelow : ℕ → Choice → (ℕ → Bool) → List Tile
 tilesBelow zero ch chosen = []
 tilesBelow (suc n) ch chosen = cond (chosen n) (fileTile ch n ∷ tilesBelow n ch chosen) (tilesBelow n ch chosen)
 
--- a choice by what painting reads of it: the starts only select
+-- what painting reads of a choice: not the starts, which only select
 abbrev pub paints : Scan → Bool → Choice
 paints sc on = record { scan = sc; starts = []; anyScene = false; masks = on }

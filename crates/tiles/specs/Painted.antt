@@ -41,5 +41,6 @@ pub record LinesRoom (k : Mask) (lines : List ℕ) : Type 0 where
   pub mask : k .height * k .stride ≤ length lines
 
 -- the turn of the tile that has the entry's rectangle and pixels, and this mask
-pub record TurnedBehind (t m ds : List ℕ) (e : ℕ) (bs : List ℕ) (q : ℕ) (w : Rect) (k : Mask) (lines : List ℕ) (quick : Bool) (t′ m′ : List ℕ) (r : ℕ) : Type 0 where
+pub record TurnedBehind (t m ds : List ℕ) (e : ℕ) (bs : List ℕ) (q : ℕ) (w : Rect) (k : Mask) (lines : List ℕ) (quick : Bool) (t′ m′ : List ℕ) (r : ℕ)
+    : Type 0 where
   pub behind : Turned t m w (rectangle ds e) (drop (pixelsPlace ds e bs q) bs) (pixelBytes (pixelType ds e)) k lines quick t′ m′ r
