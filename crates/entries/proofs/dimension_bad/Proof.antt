@@ -1,4 +1,6 @@
 -- `entries::dimension_bad` meets its contract.
+use Prim.Native.Nat.{_≤_, _<_}
+use native.Mathlib.Omega.{arith}
 use borrow.Author.Needs.{needs}
 use Rattle.format.specs.Entry.{dimensionBad}
 use Rattle.format.proofs.Flags.{flags, any-later}
@@ -7,11 +9,11 @@ use Rattle.entries.proofs.dimension_bad.Tie as tie
 
 returns-3 : tie.Need-returns-3
 unfolding dimensionBad
-returns-3 c = search flags depth 8
+returns-3 c = let h : 2147483648 ≤ c .before .stored-field .result = omega arith in search flags depth 8
 
 returns-5 : tie.Need-returns-5
 unfolding dimensionBad
-returns-5 c = search flags depth 8
+returns-5 c = let h : c .before .before .before .stored-field .result < 2147483648 = omega arith in search flags depth 8
 
 pub dimension-bad-spec : {M : Type 1} → statement M
 unfolding dimensionBad

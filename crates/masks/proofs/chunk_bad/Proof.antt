@@ -1,5 +1,5 @@
 -- `masks::chunk_bad` meets its contract.
-use Prim.Native.Nat.{_+_, _<_}
+use Prim.Native.Nat.{_+_, _<_, _≤_}
 use native.Mathlib.Omega.{arith}
 use borrow.Author.Tests.{lt-ltb}
 use borrow.Author.Needs.{needs}
@@ -18,18 +18,23 @@ returns c = let a = c .before .before .args in let short : a .end < a .c + 20 = 
 
 returns-2 : tie.Need-returns-2
 unfolding chunkBad nextChunk
-returns-2 c = search flags depth 8
+returns-2 c = let h : 2147483648 ≤ c .before .chunk-size .result = omega arith in search flags depth 8
 
 returns-3 : tie.Need-returns-3
 unfolding chunkBad nextChunk
-returns-3 c = rw (← c .before .before .chunk-size .ensures .0) (search flags depth 8)
+returns-3 c =
+    let a = c .before .before .before .before .before .args in
+    let h : a .end < a .c + 20 + c .before .before .chunk-size .result = omega arith in
+    rw (← c .before .before .chunk-size .ensures .0) (search flags depth 8)
 
 returns-4 : tie.Need-returns-4
 unfolding chunkBad nextChunk
-returns-4 c = rw (← c .before .before .chunk-size .ensures .0) (search flags depth 8)
+returns-4 c =
+    let a = c .before .before .before .before .before .args in
+    let h : a .c + 20 + c .before .before .chunk-size .result ≤ a .end = omega arith in
+    rw (← c .before .before .chunk-size .ensures .0) (search flags depth 8)
 
 pub chunk-bad-spec : {M : Type 1} → statement M
-unfolding chunkBad nextChunk
 chunk-bad-spec =
     tie.close
     (tie.spec

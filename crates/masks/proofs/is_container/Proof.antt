@@ -18,7 +18,6 @@ unfolding isContainer containerMarker
 returns-2 c = let n = c .before .before .before .before .args .n in let e : n + 1 - 39 ≡ n - 38 = omega arith in rw e (c .stands .ensures)
 
 pub is-container-spec : {M : Type 1} → statement M
-unfolding isContainer containerMarker
 is-container-spec =
     tie.close
     (tie.spec

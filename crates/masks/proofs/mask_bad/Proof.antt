@@ -30,23 +30,23 @@ module _ (r a q b : ℕ) (e : r ≡ a) (f : q ≡ b) where
 
 returns : tie.Need-returns
 unfolding maskBad representation
-returns c = search flags depth 9
+returns c = let h : c .before .chunk-size .result < 16 = omega arith in search flags depth 9
 
 returns-2 : tie.Need-returns-2
 unfolding maskBad representation
-returns-2 c = search flags depth 9
+returns-2 c = let h : 2147483648 ≤ c .before .mask-width .result = omega arith in search flags depth 9
 
 returns-3 : tie.Need-returns-3
 unfolding maskBad representation
-returns-3 c = search flags depth 9
+returns-3 c = let h : 2147483648 ≤ c .before .mask-height .result = omega arith in search flags depth 9
 
 returns-4 : tie.Need-returns-4
 unfolding maskBad representation
-returns-4 c = search flags depth 9
+returns-4 c = let h : (c .before .u32-at .result ≡ 0) → ⊥ = λ e. omega arith in search flags depth 9
 
 returns-5 : tie.Need-returns-5
 unfolding maskBad representation
-returns-5 c = search flags depth 9
+returns-5 c = let h : 2147483648 ≤ c .before .mask-stride .result = omega arith in search flags depth 9
 
 returns-6 : tie.Need-returns-6
 unfolding maskBad
@@ -61,7 +61,6 @@ unfolding maskBad representation
 returns-8 c = search (any-skip, any-none, lt-no, le-no′, not-is-false, eq-yes, columns-in, lines-in) depth 10
 
 pub mask-bad-spec : {M : Type 1} → statement M
-unfolding maskBad representation
 mask-bad-spec =
     tie.close
     (tie.spec

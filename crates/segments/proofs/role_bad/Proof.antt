@@ -1,4 +1,6 @@
 -- `segments::role_bad` meets its contract.
+use Prim.Native.Nat.{_<_}
+use native.Mathlib.Omega.{arith}
 use borrow.Author.Needs.{needs}
 use Rattle.format.proofs.Flags.{flags}
 use Rattle.format.specs.Segments.{roleBad}
@@ -15,7 +17,7 @@ returns-2 c = search flags depth 8
 
 returns-3 : tie.Need-returns-3
 unfolding roleBad
-returns-3 c = search flags depth 8
+returns-3 c = let h : c .before .room-at .result < 80 = omega arith in search flags depth 8
 
 returns-4 : tie.Need-returns-4
 unfolding roleBad

@@ -6,8 +6,11 @@ use Rattle.subblocks.proofs.PartLaws.{listed-in, x-stored, y-stored, by
 use Rattle.subblocks.proofs.is_pixels_size.Statement.{statement}
 use Rattle.subblocks.proofs.is_pixels_size.Tie as tie
 
-pub is-pixels-size-spec : {M : Type 1} → statement M
+returns : tie.Need-returns
 unfolding pixelsSize
+returns c = cc
+
+pub is-pixels-size-spec : {M : Type 1} → statement M
 is-pixels-size-spec =
     tie.close
     (tie.spec
@@ -18,4 +21,4 @@ is-pixels-size-spec =
     (λ c κs. search listed-in)
     (λ c κs. search needs)
     (λ c κs. (search x-stored, search y-stored, search bytes-some))
-    (λ c. cc))
+    returns)

@@ -10,6 +10,9 @@ add-judge-chunks c =
     let k = c .before .before .before .before in
     omega (arith, attachment-in _ _ _ _ _ _ (k .attachment-size .ensures .0) (c .attachment-place .ensures) (k .before .before .before .pre))
 
+returns-3 : tie.Need-returns-3
+returns-3 c = search chunks-judged
+
 pub judge-attachment-spec : {M : Type 1} → statement M
 judge-attachment-spec =
     tie.close
@@ -21,4 +24,4 @@ judge-attachment-spec =
     (λ c κs. search needs)
     add-judge-chunks
     (λ c κs. search (needs, attachment-in))
-    (λ c. search chunks-judged))
+    returns-3)

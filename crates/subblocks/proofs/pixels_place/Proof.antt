@@ -6,12 +6,15 @@ use Rattle.subblocks.proofs.PartLaws.{sizes-in, filled-in}
 use Rattle.subblocks.proofs.pixels_place.Statement.{statement}
 use Rattle.subblocks.proofs.pixels_place.Tie as tie
 
-pub pixels-place-spec : {M : Type 1} → statement M
+returns : tie.Need-returns
 unfolding pixelsPlace
+returns c = omega arith
+
+pub pixels-place-spec : {M : Type 1} → statement M
 pixels-place-spec =
     tie.close
     (tie.spec
     (λ c κs. search needs)
     (λ c κs. search sizes-in)
     (λ c. omega (arith, filled-in _ _ _ _ (c .before .before .before .before .pre) .metadata))
-    (λ c. omega arith))
+    returns)
