@@ -3,7 +3,7 @@ use format::Verdict;
 use text::Text;
 ghost use mathlib.Core.Path.{_≡_};
 ghost use mathlib.Core.Bool.{false};
-ghost use mathlib.Core.List.{_∷_};
+ghost use mathlib.Core.List.{[], _∷_};
 ghost use Prim.Native.Nat.{_+_, _^_, _≤_, _<_, min, max};
 ghost use lib.ListN.{length};
 ghost use Rattle.format.specs.Scan.{scanOf};
@@ -230,6 +230,21 @@ pub fn summarize(s: &[u8]) -> SummaryAnswer
 
 // ---- the text
 
+// The text that says nothing, and takes no room.
+fn empty_text() -> Text
+    ensures { λ r. ⌜ Clean r × (textOf r ≡ []) × (r .length ≡ 0) ⌝ }
+{
+    text::empty()
+}
+
+// The text with a coordinate after it.
+fn put_number(t: Text, x: u64) -> Text
+    requires { ⌜ Clean t × (x < 2 ^ 32) × (t .length + 21 ≤ 192) ⌝ }
+    ensures { λ r. ⌜ Appended t (signedDecimal x) r × (r .length ≤ t .length + 11) ⌝ }
+{
+    text::put_signed(t, x)
+}
+
 // The text with a line after it: a name and a number.
 fn put_line(t: Text, name: &[u8], x: u64) -> Text
     requires { ⌜ Clean t × (t .length + length (now name) + 21 ≤ 192) ⌝ }
@@ -246,7 +261,7 @@ fn put_coordinate(t: Text, x: u64) -> Text
     ensures { λ r. ⌜ Appended t (44 ∷ signedDecimal x) r × (r .length ≤ t .length + 12) ⌝ }
 {
     let comma = text::push(t, 44);
-    text::put_signed(comma, x)
+    put_number(comma, x)
 }
 
 // The text with the box's corners after it, or none.
@@ -257,7 +272,7 @@ fn put_corners(t: Text, c: Corners) -> Text
 {
     let some = c.some;
     if some {
-        let left = text::put_signed(t, c.left);
+        let left = put_number(t, c.left);
         let top = put_coordinate(left, c.top);
         let right = put_coordinate(top, c.right);
         return put_coordinate(right, c.bottom);
@@ -281,7 +296,7 @@ fn figures_text(f: Figures) -> Text
     requires { ⌜ Held (f .corners) ⌝ }
     ensures { λ r. ⌜ Says r (textBy f) ⌝ }
 {
-    let start = text::empty();
+    let start = empty_text();
     let bytes = put_line(start, b"bytes=", f.bytes);
     let segments = put_line(bytes, b"segments=", f.segments);
     let tiles = put_line(segments, b"tiles=", f.tiles);
@@ -293,7 +308,7 @@ fn figures_text(f: Figures) -> Text
 fn refusal_text(number: u64, place: u64) -> Text
     ensures { λ r. ⌜ Says r (refusalText number place) ⌝ }
 {
-    let start = text::empty();
+    let start = empty_text();
     let refused = put_line(start, b"refused=", number);
     put_line(refused, b"place=", place)
 }

@@ -1,0 +1,12 @@
+-- `listing::put_number` meets its contract.
+use borrow.Author.Needs.{needs}
+use Rattle.listing.proofs.Texts.{signed-room}
+use Rattle.listing.proofs.put_number.Statement.{statement}
+use Rattle.listing.proofs.put_number.Tie as tie
+
+pub put-number-spec : {M : Type 1} → statement M
+put-number-spec =
+    tie.close
+    (tie.spec
+    (λ c κs. search needs)
+    (λ c. search (needs, signed-room)))
