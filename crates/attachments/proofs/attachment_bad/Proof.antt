@@ -5,14 +5,25 @@ use borrow.Author.Needs.{needs}
 use Rattle.attachments.proofs.attachment_bad.Statement.{statement}
 use Rattle.attachments.proofs.attachment_bad.Tie as tie
 
-pub attachment-bad-spec : {M : Type 1} → statement M
+returns : tie.Need-returns
 unfolding attachmentBad
+returns c = search flags depth 8
+
+returns-2 : tie.Need-returns-2
+unfolding attachmentBad
+returns-2 c = search flags depth 8
+
+returns-3 : tie.Need-returns-3
+unfolding attachmentBad
+returns-3 c = search flags depth 8
+
+pub attachment-bad-spec : {M : Type 1} → statement M
 attachment-bad-spec =
     tie.close
     (tie.spec
     (λ c κs. search needs)
-    (λ c. search flags depth 8)
+    returns
     (λ c. search needs)
     (λ c κs. search needs)
-    (λ c. search flags depth 8)
-    (λ c. search flags depth 8))
+    returns-2
+    returns-3)

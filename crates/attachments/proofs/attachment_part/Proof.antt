@@ -4,6 +4,9 @@ use Rattle.format.specs.Attachments.{attachmentPart}
 use Rattle.attachments.proofs.attachment_part.Statement.{statement}
 use Rattle.attachments.proofs.attachment_part.Tie as tie
 
-pub attachment-part-spec : {M : Type 1} → statement M
+returns : tie.Need-returns
 unfolding attachmentPart
-attachment-part-spec = tie.close (tie.spec (λ c. search needs) (λ c κs. search needs) (λ c. search needs))
+returns c = search needs
+
+pub attachment-part-spec : {M : Type 1} → statement M
+attachment-part-spec = tie.close (tie.spec (λ c. search needs) (λ c κs. search needs) returns)

@@ -11,12 +11,21 @@ use Rattle.format.proofs.Flags.{eq-yes, eq-no}
 use Rattle.attachments.proofs.has_zero.Statement.{statement}
 use Rattle.attachments.proofs.has_zero.Tie as tie
 
+abbrev Inv-loop : tie.InvT-loop
+Inv-loop s p i₀ i = (i ≤ 80) × (anyBelow i (λ k. eqb (getD s (p + k) 0) 0) ≡ false)
+
+abbrev μ-loop : tie.MeasureT-loop
+μ-loop s p i₀ i = 80 - i
+
+returns-2 : tie.Need-returns-2 Inv-loop μ-loop
+returns-2 c = let e : c .before .loop .i ≡ 80 = omega arith in rw (← e) (sym (c .before .loop .inv .1))
+
 pub has-zero-spec : {M : Type 1} → statement M
 has-zero-spec =
     tie.close
     (tie.spec
-    (λ s p i₀ i. (i ≤ 80) × (anyBelow i (λ k. eqb (getD s (p + k) 0) 0) ≡ false))
-    (λ s p i₀ i. 80 - i)
+    Inv-loop
+    μ-loop
     (λ c. (omega arith, any-zero _))
     (λ c. omega arith)
     (λ c κs. omega arith)
@@ -24,4 +33,4 @@ has-zero-spec =
     (λ c. omega arith)
     (λ c. omega arith)
     (λ c. (omega arith, any-more _ _ (c .before .before .before .loop .inv .1) (eq-no _ _ _ (c .before .byte-at .ensures .0) (c .if1 .left))))
-    (λ c. let e : c .before .loop .i ≡ 80 = omega arith in rw (← e) (sym (c .before .loop .inv .1))))
+    returns-2)

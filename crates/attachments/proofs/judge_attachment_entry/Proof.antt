@@ -1,46 +1,82 @@
 -- `attachments::judge_attachment_entry` meets its contract.
-use mathlib.Core.Path.{_≡_, sym}
-use mathlib.Core.Bool.{true, false}
+use Prim.Native.Nat.{ℕ}
+use mathlib.Core.Path.{_≡_, refl, sym, ap, _∙_}
+use mathlib.Core.List.{List}
+use mathlib.Core.Bool.{Bool, true, false, not}
 use native.Mathlib.Omega.{arith}
-use denote.Ref.{now}
-use lib.Dec.{eqb}
 use Rattle.format.specs.Segments.{walkedAs}
 use Rattle.format.specs.Names.{nameAttachment}
-use Rattle.format.specs.Attachments.{attachmentEntryBad, attachmentBad, attachmentPart, attachmentPosition, attachmentEntryRows}
-use Rattle.format.proofs.Flags.{flags, is-true, is-false, is-true-not, eq-yes}
+use Rattle.format.specs.Attachments.{attachmentEntryBad, attachmentBad, attachmentDataBad, attachmentEntryRows}
+use Rattle.format.specs.declared.Verdict.the-variants.{Refused}
+use Rattle.format.proofs.Flags.{cond-true, cond-false, is-true-not, is-false-not, not-is-true, not-is-false, eq-yes, eq-no}
 use Rattle.attachments.proofs.AttachmentLaws.{walked-in, attachment-fits}
 use borrow.Author.Needs.{needs}
 use Rattle.attachments.proofs.judge_attachment_entry.Statement.{statement}
 use Rattle.attachments.proofs.judge_attachment_entry.Tie as tie
 
--- the first four tests do not refuse
-passed : (w : tie.Else4)
-    → let b = w .before .before .before .before .before in
-    let a = b .before .before .before .before .before .before .args in
-    let q = b .attachment-position .result in
-    (attachmentPosition (now (a .s)) (a .e) ≡ q)
-    × (attachmentEntryBad (now (a .s)) (a .e) ≡ false)
-    × (eqb (attachmentPart (now (a .s)) (a .e)) 0 ≡ true)
-    × (walkedAs (now (a .s)) q nameAttachment ≡ true)
-    × (attachmentBad (now (a .s)) (a .e) (now (a .s)) q ≡ false)
-unfolding nameAttachment
-passed w = search (sym, is-false, eq-yes, is-true-not)
+-- what was answered by r of the entry at e
+entry-is : (bs : List ℕ) (e : ℕ) (r v : Bool) → r ≡ attachmentEntryBad bs e → r ≡ v → attachmentEntryBad bs e ≡ v
+entry-is bs e r v f h = sym f ∙ h
+
+-- and of the position p that was read, which is q
+module _ (bs : List ℕ) (p q : ℕ) (i : p ≡ q) (r : Bool) where
+  walked-no : (name : List ℕ) → r ≡ walkedAs bs p name → not r ≡ true → walkedAs bs q name ≡ false
+  walked-no name f h = rw (← i) (is-false-not r _ f h)
+
+  walked-yes : (name : List ℕ) → r ≡ walkedAs bs p name → not r ≡ false → walkedAs bs q name ≡ true
+  walked-yes name f h = rw (← i) (is-true-not r _ f h)
+
+  copy-is : (e : ℕ) (v : Bool) → r ≡ attachmentBad bs e bs p → r ≡ v → attachmentBad bs e bs q ≡ v
+  copy-is e v f h = rw (← i) (sym f ∙ h)
+
+  data-is : (v : Bool) → r ≡ attachmentDataBad bs p → r ≡ v → attachmentDataBad bs q ≡ v
+  data-is v f h = rw (← i) (sym f ∙ h)
+
+-- a refusal at it
+refused-at : (m p q : ℕ) → p ≡ q → Refused m p ≡ Refused m q
+refused-at m p q i = ap (Refused m) i
+
+ruleset tests = (cond-true, cond-false, not-is-true, not-is-false, eq-yes, eq-no, entry-is, walked-no, walked-yes, copy-is, data-is, refused-at, refl)
+
+returns : tie.Need-returns
+unfolding attachmentEntryRows nameAttachment
+returns c = search tests depth 10
+
+returns-2 : tie.Need-returns-2
+unfolding attachmentEntryRows nameAttachment
+returns-2 c = search tests depth 10
+
+returns-3 : tie.Need-returns-3
+unfolding attachmentEntryRows nameAttachment
+returns-3 c = search tests depth 10
+
+returns-4 : tie.Need-returns-4
+unfolding attachmentEntryRows nameAttachment
+returns-4 c = search tests depth 10
+
+returns-5 : tie.Need-returns-5
+unfolding attachmentEntryRows nameAttachment
+returns-5 c = search tests depth 10
+
+returns-6 : tie.Need-returns-6
+unfolding attachmentEntryRows nameAttachment
+returns-6 c = search tests depth 10
 
 pub judge-attachment-entry-spec : {M : Type 1} → statement M
-unfolding attachmentEntryRows nameAttachment
+unfolding nameAttachment
 judge-attachment-entry-spec =
     tie.close
     (tie.spec
     (λ c κs. search needs)
-    (λ c. search flags depth 8)
+    returns
     (λ c κs. search needs)
-    (λ c. search flags depth 8)
+    returns-2
     (λ c κs. search needs)
     (λ c. search needs)
     (λ c κs. search needs)
-    (λ c. rw (← c .before .before .before .attachment-position .ensures) (search flags depth 8))
+    returns-3
     (λ c κs. (omega arith, search walked-in))
-    (λ c. rw (← c .before .before .before .before .before .attachment-position .ensures) (search flags depth 8))
+    returns-4
     (λ c κs. search (walked-in, attachment-fits))
-    (λ c. let p = passed (c .before .before) in rw (p .0, p .1, p .2, p .3, p .4, is-true _ _ (c .before .attachment-data-bad .ensures) (c .if5 .taken)))
-    (λ c. let p = passed (c .before .before) in rw (p .0, p .1, p .2, p .3, p .4, is-false _ _ (c .before .attachment-data-bad .ensures) (c .if5 .left))))
+    returns-5
+    returns-6)

@@ -23,6 +23,10 @@ within : (c : tie.Else2)
     attachmentEntry (u .attachment-directory-position .result) (attachmentEntryCount bs (u .attachment-directory-position .result)) ≤ length bs
 within c = entries-within _ _ (room-in (c .before .before)) (is-false _ _ (c .before .attachment-directory-bad .ensures) (c .if2 .left))
 
+returns : tie.Need-returns
+unfolding attachmentsRows attachmentDirectoryRows
+returns c = rw (← c .before .attachment-directory-position .ensures) (absent _ _ (eq-eqb _ _ (c .if1 .taken)))
+
 returns-2 : tie.Need-returns-2
 unfolding attachmentsRows attachmentDirectoryRows
 returns-2 c =
@@ -40,12 +44,12 @@ returns-3 c =
     (c .judge-attachment-entries .ensures)))
 
 pub judge-attachments-spec : {M : Type 1} → statement M
-unfolding attachmentsRows attachmentDirectoryRows attachmentEntry
+unfolding attachmentEntry
 judge-attachments-spec =
     tie.close
     (tie.spec
     (λ c κs. search needs)
-    (λ c. rw (← c .before .attachment-directory-position .ensures) (absent _ _ (eq-eqb _ _ (c .if1 .taken))))
+    returns
     (λ c κs. room-in c)
     returns-2
     (λ c κs. omega (arith, within c))

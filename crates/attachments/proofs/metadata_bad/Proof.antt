@@ -6,18 +6,36 @@ use borrow.Author.Needs.{needs}
 use Rattle.attachments.proofs.metadata_bad.Statement.{statement}
 use Rattle.attachments.proofs.metadata_bad.Tie as tie
 
-pub metadata-bad-spec : {M : Type 1} → statement M
+returns : tie.Need-returns
+returns c = metadata-short _ _ (rw (← c .before .room-at .ensures) (c .if1 .taken))
+
+returns-2 : tie.Need-returns-2
 unfolding metadataBad
+returns-2 c = search flags depth 8
+
+returns-3 : tie.Need-returns-3
+unfolding metadataBad
+returns-3 c = search flags depth 8
+
+returns-4 : tie.Need-returns-4
+unfolding metadataBad
+returns-4 c = rw (← c .before .before .before .before .xml-size .ensures .0, ← c .before .before .xml-attachment-size .ensures .0) (search flags depth 8)
+
+returns-5 : tie.Need-returns-5
+unfolding metadataBad
+returns-5 c = rw (← c .before .before .before .before .xml-size .ensures .0, ← c .before .before .xml-attachment-size .ensures .0) (search flags depth 8)
+
+pub metadata-bad-spec : {M : Type 1} → statement M
 metadata-bad-spec =
     tie.close
     (tie.spec
     (λ c κs. search needs)
-    (λ c. metadata-short _ _ (rw (← c .before .room-at .ensures) (c .if1 .taken)))
+    returns
     (λ c κs. search needs)
-    (λ c. search flags depth 8)
+    returns-2
     (λ c κs. search needs)
-    (λ c. search flags depth 8)
+    returns-3
     (λ c. search needs)
     (λ c. search needs)
-    (λ c. rw (← c .before .before .before .before .xml-size .ensures .0, ← c .before .before .xml-attachment-size .ensures .0) (search flags depth 8))
-    (λ c. rw (← c .before .before .before .before .xml-size .ensures .0, ← c .before .before .xml-attachment-size .ensures .0) (search flags depth 8)))
+    returns-4
+    returns-5)

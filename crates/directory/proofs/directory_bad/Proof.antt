@@ -5,14 +5,29 @@ use Rattle.format.specs.Directory.{directoryBad}
 use Rattle.directory.proofs.directory_bad.Statement.{statement}
 use Rattle.directory.proofs.directory_bad.Tie as tie
 
-pub directory-bad-spec : {M : Type 1} → statement M
+returns : tie.Need-returns
 unfolding directoryBad
+returns c = search flags depth 8
+
+returns-2 : tie.Need-returns-2
+unfolding directoryBad
+returns-2 c = search flags depth 8
+
+returns-3 : tie.Need-returns-3
+unfolding directoryBad
+returns-3 c = search flags depth 8
+
+returns-4 : tie.Need-returns-4
+unfolding directoryBad
+returns-4 c = search flags depth 8
+
+pub directory-bad-spec : {M : Type 1} → statement M
 directory-bad-spec =
     tie.close
     (tie.spec
     (λ c κs. search needs)
-    (λ c. search flags depth 8)
+    returns
     (λ c κs. search needs)
-    (λ c. search flags depth 8)
-    (λ c. search flags depth 8)
-    (λ c. search flags depth 8))
+    returns-2
+    returns-3
+    returns-4)

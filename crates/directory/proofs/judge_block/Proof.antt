@@ -5,6 +5,9 @@ use Rattle.directory.proofs.Marking.{answered-stop, answered-next}
 use Rattle.directory.proofs.judge_block.Statement.{statement}
 use Rattle.directory.proofs.judge_block.Tie as tie
 
+returns : tie.Need-returns
+returns c = search answered-stop
+
 pub judge-block-spec : {M : Type 1} → statement M
 judge-block-spec =
     tie.close
@@ -13,5 +16,5 @@ judge-block-spec =
     (λ c. search needs)
     (λ c. search needs)
     (λ c κs. search chunks-known)
-    (λ c. search answered-stop)
+    returns
     (λ c. search answered-next))

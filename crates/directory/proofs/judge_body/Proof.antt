@@ -22,17 +22,24 @@ returns-2 c =
     body-next (scanOf _) _ _ _ _ _ (j .judge-tile .ensures) (c .before .before .enum-told .given .1) (j .before .before .before .file-position .ensures)
     (c .judge-block .ensures)
 
-pub judge-body-spec : {M : Type 1} → statement M
+judge-tile-requires : tie.Need-judge-tile-requires
 unfolding nameSubBlock
+judge-tile-requires c κs = search (needs, named-is)
+
+returns : tie.Need-returns
+unfolding nameSubBlock
+returns c = search answered-stop
+
+pub judge-body-spec : {M : Type 1} → statement M
 judge-body-spec =
     tie.close
     (tie.spec
     (λ c κs. search fixed-in)
     (λ c. search needs)
     (λ c κs. search needs)
-    (λ c κs. search (needs, named-is))
+    judge-tile-requires
     (λ c. search needs)
     (λ c. search needs)
     judge-block-requires
-    (λ c. search answered-stop)
+    returns
     returns-2)

@@ -4,15 +4,21 @@ use Rattle.directory.proofs.Marking.{judged-before, judged-refused, jud
 use Rattle.directory.proofs.judge_chunks_once.Statement.{statement}
 use Rattle.directory.proofs.judge_chunks_once.Tie as tie
 
+returns : tie.Need-returns
+returns c = search judged-before
+
+returns-3 : tie.Need-returns-3
+returns-3 c = search judged-now
+
 pub judge-chunks-once-spec : {M : Type 1} → statement M
 judge-chunks-once-spec =
     tie.close
     (tie.spec
     (λ c. search needs)
-    (λ c. search judged-before)
+    returns
     (λ c κs. search needs)
     (λ c. search needs)
     (λ c. search needs)
     (λ c. search needs)
     (λ c. search judged-refused)
-    (λ c. search judged-now))
+    returns-3)

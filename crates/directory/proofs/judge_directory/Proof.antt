@@ -6,6 +6,10 @@ use Rattle.directory.proofs.Stages.{room-at, first-in, count-in}
 use Rattle.directory.proofs.judge_directory.Statement.{statement}
 use Rattle.directory.proofs.judge_directory.Tie as tie
 
+returns : tie.Need-returns
+unfolding directoryRows
+returns c = rw (← c .before .before .directory-position .ensures) (search flags depth 8)
+
 returns-2 : tie.Need-returns-2
 unfolding directoryRows tileCount
 returns-2 c =
@@ -14,13 +18,12 @@ returns-2 c =
     (cond-false _ _ _ _ (is-false _ _ (b .directory-bad .ensures) (c .before .before .if1 .left)) (c .judge-entries .ensures))
 
 pub judge-directory-spec : {M : Type 1} → statement M
-unfolding directoryRows
 judge-directory-spec =
     tie.close
     (tie.spec
     (λ c κs. search needs)
     (λ c κs. search room-at)
-    (λ c. rw (← c .before .before .directory-position .ensures) (search flags depth 8))
+    returns
     (λ c κs. search count-in)
     (λ c κs. search (needs, room-at, first-in))
     returns-2)

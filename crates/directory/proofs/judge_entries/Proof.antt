@@ -26,6 +26,12 @@ next-entry-requires c κs =
     let j = c .before .before in
     entry-in (scanOf _) _ _ (j .before .before .before .before .before .before .pre .1 .0) _ _ (j .judge-entry .ensures) (c .enum-told .given .1)
 
+loop-holds : tie.Need-loop-holds Inv-loop μ-loop
+loop-holds c = search (entries-start, none-marked)
+
+loop-again : tie.Need-loop-again Inv-loop μ-loop
+loop-again c = search entries-next
+
 pub judge-entries-spec : {M : Type 1} → statement M
 unfolding roomEnd
 judge-entries-spec =
@@ -34,7 +40,7 @@ judge-entries-spec =
     Inv-loop
     μ-loop
     (λ c κs. search needs)
-    (λ c. search (entries-start, none-marked))
+    loop-holds
     (λ c κs. search needs)
     (λ c. search needs)
     returns
@@ -42,5 +48,5 @@ judge-entries-spec =
     next-entry-requires
     (λ c. omega arith)
     (λ c. omega arith)
-    (λ c. search entries-next)
+    loop-again
     (λ c. entries-end _ _ _ _ _ _ (c .before .loop .inv) (c .loop-test .left)))

@@ -6,6 +6,10 @@ use Rattle.directory.proofs.Marking.{answered-stop, answered-next}
 use Rattle.directory.proofs.judge_entry.Statement.{statement}
 use Rattle.directory.proofs.judge_entry.Tie as tie
 
+returns : tie.Need-returns
+unfolding entryRows
+returns c = search answered-stop
+
 pub judge-entry-spec : {M : Type 1} → statement M
 unfolding entryRows
 judge-entry-spec =
@@ -15,5 +19,5 @@ judge-entry-spec =
     (λ c. search needs)
     (λ c. search needs)
     (λ c κs. search (needs, head-few, head-entry))
-    (λ c. search answered-stop)
+    returns
     (λ c. search answered-next))

@@ -7,16 +7,36 @@ use Rattle.format.specs.Directory.{roomEnd, headRows}
 use Rattle.directory.proofs.judge_head.Statement.{statement}
 use Rattle.directory.proofs.judge_head.Tie as tie
 
-pub judge-head-spec : {M : Type 1} → statement M
+returns : tie.Need-returns
 unfolding roomEnd headRows
+returns c = search flags depth 8
+
+head-bad-requires : tie.Need-head-bad-requires
+unfolding roomEnd headRows
+head-bad-requires c κs = omega arith
+
+returns-2 : tie.Need-returns-2
+unfolding roomEnd headRows
+returns-2 c = search flags depth 8
+
+returns-3 : tie.Need-returns-3
+unfolding roomEnd headRows
+returns-3 c = search (flags, lt-both, le-both) depth 8
+
+returns-4 : tie.Need-returns-4
+unfolding roomEnd headRows
+returns-4 c = search (flags, lt-both, le-both) depth 8
+
+pub judge-head-spec : {M : Type 1} → statement M
+unfolding roomEnd
 judge-head-spec =
     tie.close
     (tie.spec
     (λ c κs. search needs)
     (λ c. omega arith)
-    (λ c. search flags depth 8)
+    returns
+    head-bad-requires
+    returns-2
     (λ c κs. omega arith)
-    (λ c. search flags depth 8)
-    (λ c κs. omega arith)
-    (λ c. search (flags, lt-both) depth 8)
-    (λ c. search (flags, le-both) depth 8))
+    returns-3
+    returns-4)

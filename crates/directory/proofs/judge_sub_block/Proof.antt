@@ -6,13 +6,24 @@ use Rattle.directory.proofs.Stages.{copy-agrees}
 use Rattle.directory.proofs.judge_sub_block.Statement.{statement}
 use Rattle.directory.proofs.judge_sub_block.Tie as tie
 
-pub judge-sub-block-spec : {M : Type 1} → statement M
+returns : tie.Need-returns
 unfolding subBlockRows
+returns c = search flags depth 8
+
+returns-2 : tie.Need-returns-2
+unfolding subBlockRows
+returns-2 c = search flags depth 8
+
+returns-3 : tie.Need-returns-3
+unfolding subBlockRows
+returns-3 c = search flags depth 8
+
+pub judge-sub-block-spec : {M : Type 1} → statement M
 judge-sub-block-spec =
     tie.close
     (tie.spec
     (λ c κs. search needs)
-    (λ c. search flags depth 8)
+    returns
     (λ c κs. search copy-agrees)
-    (λ c. search flags depth 8)
-    (λ c. search flags depth 8))
+    returns-2
+    returns-3)

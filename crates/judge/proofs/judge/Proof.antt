@@ -17,8 +17,15 @@ judge-walked-requires c κs =
     let a = c .before .enum-told .given .1 in
     (filled _ _ _ _ (length-replicate {A = ℕ} 8192 0) w a, file-long _ (sym (w .verdict-is) ∙ a))
 
-pub judge-spec : {M : Type 1} → statement M
+returns : tie.Need-returns
 unfolding verdict checks
+returns c = verdict-answered (search then-stop)
+
+returns-2 : tie.Need-returns-2
+unfolding verdict checks
+returns-2 c = verdict-answered (search then-next)
+
+pub judge-spec : {M : Type 1} → statement M
 judge-spec =
     tie.close
     (tie.spec
@@ -26,5 +33,5 @@ judge-spec =
     (λ c. search needs)
     (λ c. search needs)
     judge-walked-requires
-    (λ c. verdict-answered (search then-stop))
-    (λ c. verdict-answered (search then-next)))
+    returns
+    returns-2)

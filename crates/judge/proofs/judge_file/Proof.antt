@@ -20,27 +20,55 @@ module _ (bs : List ℕ) (p q : ℕ) (name : List ℕ) (r v : Bool) (e : p ≡ q
 
 ruleset tests = (cond-true, cond-false, not-is-true, not-is-false, eq-yes, eq-no, names-is, names-but-0-is, refl)
 
+returns : tie.Need-returns
+unfolding fileRows nameDirectory nameMetadata nameAttachmentDirectory
+returns c = search tests depth 10
+
+returns-2 : tie.Need-returns-2
+unfolding fileRows nameDirectory nameMetadata nameAttachmentDirectory
+returns-2 c = search tests depth 10
+
+returns-3 : tie.Need-returns-3
+unfolding fileRows nameDirectory nameMetadata nameAttachmentDirectory
+returns-3 c = search tests depth 10
+
+returns-4 : tie.Need-returns-4
+unfolding fileRows nameDirectory nameMetadata nameAttachmentDirectory
+returns-4 c = search tests depth 10
+
+returns-5 : tie.Need-returns-5
+unfolding fileRows nameDirectory nameMetadata nameAttachmentDirectory
+returns-5 c = search tests depth 10
+
+returns-6 : tie.Need-returns-6
+unfolding fileRows nameDirectory nameMetadata nameAttachmentDirectory
+returns-6 c = search tests depth 10
+
+returns-7 : tie.Need-returns-7
+unfolding fileRows nameDirectory nameMetadata nameAttachmentDirectory
+returns-7 c = search tests depth 10
+
 pub judge-file-spec : {M : Type 1} → statement M
 unfolding fileRows nameDirectory nameMetadata nameAttachmentDirectory
 judge-file-spec =
     tie.close
     (tie.spec
     (λ c κs. search needs)
-    (λ c. search tests depth 10)
+    returns
     (λ c κs. search needs)
-    (λ c. search tests depth 10)
+    returns-2
     (λ c κs. search needs)
-    (λ c. search tests depth 10)
-    (λ c κs. search needs)
-    (λ c. search needs)
-    (λ c κs. search needs)
-    (λ c. search tests depth 10)
+    returns-3
     (λ c κs. search needs)
     (λ c. search needs)
     (λ c κs. search needs)
-    (λ c. search tests depth 10)
+    returns-4
     (λ c κs. search needs)
     (λ c. search needs)
     (λ c κs. search needs)
-    (λ c. search tests depth 10)
-    (λ c. search tests depth 10))
+    returns-5
+    (λ c κs. search needs)
+    (λ c. search needs)
+    (λ c κs. search needs)
+    returns-6
+    returns-7)

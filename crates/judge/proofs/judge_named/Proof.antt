@@ -4,6 +4,9 @@ use Rattle.directory.proofs.Stages.{then-stop, then-next}
 use Rattle.judge.proofs.judge_named.Statement.{statement}
 use Rattle.judge.proofs.judge_named.Tie as tie
 
+returns : tie.Need-returns
+returns c = search then-stop
+
 pub judge-named-spec : {M : Type 1} → statement M
 judge-named-spec =
     tie.close
@@ -12,5 +15,5 @@ judge-named-spec =
     (λ c. search needs)
     (λ c. search needs)
     (λ c κs. search needs)
-    (λ c. search then-stop)
+    returns
     (λ c. search then-next))

@@ -5,6 +5,9 @@ use Rattle.judge.proofs.LocatedLaws.{located-by}
 use Rattle.judge.proofs.judge_walked.Statement.{statement}
 use Rattle.judge.proofs.judge_walked.Tie as tie
 
+returns : tie.Need-returns
+returns c = search then-stop
+
 pub judge-walked-spec : {M : Type 1} → statement M
 judge-walked-spec =
     tie.close
@@ -13,5 +16,5 @@ judge-walked-spec =
     (λ c. search needs)
     (λ c. search needs)
     (λ c κs. search (needs, located-by))
-    (λ c. search then-stop)
+    returns
     (λ c. search then-next))

@@ -4,10 +4,13 @@ use Rattle.format.specs.File.{namesNone}
 use Rattle.judge.proofs.names_none.Statement.{statement}
 use Rattle.judge.proofs.names_none.Tie as tie
 
-pub names-none-spec : {M : Type 1} → statement M
+returns : tie.Need-returns
 unfolding namesNone
+returns c = cc
+
+pub names-none-spec : {M : Type 1} → statement M
 names-none-spec =
     tie.close
     (tie.spec
     (λ c κs. search needs)
-    (λ c. cc))
+    returns)

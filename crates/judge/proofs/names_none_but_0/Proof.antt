@@ -5,11 +5,18 @@ use Rattle.format.specs.File.{namesNoneBut0}
 use Rattle.judge.proofs.names_none_but_0.Statement.{statement}
 use Rattle.judge.proofs.names_none_but_0.Tie as tie
 
-pub names-none-but-0-spec : {M : Type 1} → statement M
+returns : tie.Need-returns
 unfolding namesNoneBut0
+returns c = search flags depth 8
+
+returns-2 : tie.Need-returns-2
+unfolding namesNoneBut0
+returns-2 c = search flags depth 8
+
+pub names-none-but-0-spec : {M : Type 1} → statement M
 names-none-but-0-spec =
     tie.close
     (tie.spec
-    (λ c. search flags depth 8)
+    returns
     (λ c κs. search needs)
-    (λ c. search flags depth 8))
+    returns-2)

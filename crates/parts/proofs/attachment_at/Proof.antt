@@ -3,6 +3,9 @@ use Rattle.parts.proofs.Numbered.{attachment-long, annex-small, annex-i
 use Rattle.parts.proofs.attachment_at.Statement.{statement}
 use Rattle.parts.proofs.attachment_at.Tie as tie
 
+returns : tie.Need-returns
+returns c = cc
+
 pub attachment-at-spec : {M : Type 1} → statement M
 attachment-at-spec =
     tie.close
@@ -10,4 +13,4 @@ attachment-at-spec =
     (λ c κs. search attachment-long)
     (λ c κs. search annex-small)
     (λ c κs. search annex-in)
-    (λ c. cc))
+    returns)

@@ -4,6 +4,9 @@ use borrow.Author.Needs.{needs}
 use Rattle.parts.proofs.attachment_data.Statement.{statement}
 use Rattle.parts.proofs.attachment_data.Tie as tie
 
+returns : tie.Need-returns
+returns c = search answered-view
+
 pub attachment-data-spec : {M : Type 1} → statement M
 attachment-data-spec =
     tie.close
@@ -11,4 +14,4 @@ attachment-data-spec =
     (λ c κs. search needs)
     (λ c κs. search needs)
     (λ c κs. search (answered-within, data-within))
-    (λ c. search answered-view))
+    returns)

@@ -4,6 +4,9 @@ use borrow.Author.Needs.{needs}
 use Rattle.parts.proofs.common_attachment.Statement.{statement}
 use Rattle.parts.proofs.common_attachment.Tie as tie
 
+returns : tie.Need-returns
+returns c = search answered-view
+
 pub common-attachment-spec : {M : Type 1} → statement M
 common-attachment-spec =
     tie.close
@@ -11,4 +14,4 @@ common-attachment-spec =
     (λ c κs. search needs)
     (λ c κs. search needs)
     (λ c κs. search (answered-within, xml-attachment-within))
-    (λ c. search answered-view))
+    returns)

@@ -4,6 +4,9 @@ use borrow.Author.Needs.{needs}
 use Rattle.parts.proofs.common_xml.Statement.{statement}
 use Rattle.parts.proofs.common_xml.Tie as tie
 
+returns : tie.Need-returns
+returns c = search answered-view
+
 pub common-xml-spec : {M : Type 1} → statement M
 common-xml-spec =
     tie.close
@@ -11,4 +14,4 @@ common-xml-spec =
     (λ c κs. search needs)
     (λ c κs. search needs)
     (λ c κs. search (answered-within, xml-within))
-    (λ c. search answered-view))
+    returns)

@@ -6,6 +6,9 @@ use Rattle.parts.proofs.Parts.{dimension-record-found}
 use Rattle.parts.proofs.dimension.Statement.{statement}
 use Rattle.parts.proofs.dimension.Tie as tie
 
+returns-2 : tie.Need-returns-2
+returns-2 c = search dimension-record-found
+
 pub dimension-spec : {M : Type 1} → statement M
 dimension-spec =
     tie.close
@@ -17,4 +20,4 @@ dimension-spec =
     (λ c κs. search (dimension-small, accepted))
     (λ c κs. search (dimension-in, accepted))
     (λ c. search dimension-refused)
-    (λ c. search dimension-record-found))
+    returns-2)

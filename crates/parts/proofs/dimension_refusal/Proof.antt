@@ -7,6 +7,18 @@ use Rattle.parts.proofs.Numbered.{refused-before, no-such, is-there, ti
 use Rattle.parts.proofs.dimension_refusal.Statement.{statement}
 use Rattle.parts.proofs.dimension_refusal.Tie as tie
 
+returns : tie.Need-returns
+unfolding tileVerdict
+returns c = rw (dimension-asked, ← c .before .before .entry-place .ensures) (search (no-such, le-yes))
+
+returns-2 : tie.Need-returns-2
+unfolding tileVerdict
+returns-2 c = rw dimension-asked (search refused-before)
+
+returns-3 : tie.Need-returns-3
+unfolding tileVerdict
+returns-3 c = rw (dimension-asked, ← c .before .before .entry-place .ensures) (search (is-there, le-no))
+
 pub dimension-refusal-spec : {M : Type 1} → statement M
 unfolding tileVerdict
 dimension-refusal-spec =
@@ -17,6 +29,6 @@ dimension-refusal-spec =
     (λ c. search needs)
     (λ c κs. search accepted)
     (λ c κs. search (tile-fixed, accepted))
-    (λ c. rw (dimension-asked, ← c .before .before .entry-place .ensures) (search (no-such, le-yes)))
-    (λ c. rw dimension-asked (search refused-before))
-    (λ c. rw (dimension-asked, ← c .before .before .entry-place .ensures) (search (is-there, le-no))))
+    returns
+    returns-2
+    returns-3)

@@ -7,14 +7,23 @@ use Rattle.parts.proofs.Numbered.{tile-accepted, tile-below}
 use Rattle.parts.proofs.entry_place.Statement.{statement}
 use Rattle.parts.proofs.entry_place.Tie as tie
 
+abbrev Inv-loop : tie.InvT-loop
+Inv-loop s n e₀ k₀ e k = AtEntry s n e k
+
+abbrev μ-loop : tie.MeasureT-loop
+μ-loop s n e₀ k₀ e k = n - k
+
+loop-holds : tie.Need-loop-holds Inv-loop μ-loop
+loop-holds c = search at-start
+
 pub entry-place-spec : {M : Type 1} → statement M
 entry-place-spec =
     tie.close
     (tie.spec
-    (λ s n e₀ k₀ e k. AtEntry s n e k)
-    (λ s n e₀ k₀ e k. n - k)
+    Inv-loop
+    μ-loop
     (λ c κs. search (accepted-long, accepted-entries, tile-accepted))
-    (λ c. search at-start)
+    loop-holds
     (λ c κs. search (at-fixed, tile-accepted, tile-below))
     (λ c. omega arith)
     (λ c. omega arith)

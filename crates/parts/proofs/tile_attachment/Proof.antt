@@ -4,6 +4,9 @@ use borrow.Author.Needs.{needs}
 use Rattle.parts.proofs.tile_attachment.Statement.{statement}
 use Rattle.parts.proofs.tile_attachment.Tie as tie
 
+returns : tie.Need-returns
+returns c = search answered-view
+
 pub tile-attachment-spec : {M : Type 1} → statement M
 tile-attachment-spec =
     tie.close
@@ -11,4 +14,4 @@ tile-attachment-spec =
     (λ c κs. search needs)
     (λ c κs. search needs)
     (λ c κs. search (answered-within, attachment-within))
-    (λ c. search answered-view))
+    returns)

@@ -4,6 +4,9 @@ use borrow.Author.Needs.{needs}
 use Rattle.parts.proofs.tile_metadata.Statement.{statement}
 use Rattle.parts.proofs.tile_metadata.Tie as tie
 
+returns : tie.Need-returns
+returns c = search answered-view
+
 pub tile-metadata-spec : {M : Type 1} → statement M
 tile-metadata-spec =
     tie.close
@@ -11,4 +14,4 @@ tile-metadata-spec =
     (λ c κs. search needs)
     (λ c κs. search needs)
     (λ c κs. search (answered-within, metadata-within))
-    (λ c. search answered-view))
+    returns)

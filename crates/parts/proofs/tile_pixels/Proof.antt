@@ -4,6 +4,9 @@ use borrow.Author.Needs.{needs}
 use Rattle.parts.proofs.tile_pixels.Statement.{statement}
 use Rattle.parts.proofs.tile_pixels.Tie as tie
 
+returns : tie.Need-returns
+returns c = search answered-view
+
 pub tile-pixels-spec : {M : Type 1} → statement M
 tile-pixels-spec =
     tie.close
@@ -11,4 +14,4 @@ tile-pixels-spec =
     (λ c κs. search needs)
     (λ c κs. search needs)
     (λ c κs. search (answered-within, pixels-within))
-    (λ c. search answered-view))
+    returns)

@@ -7,6 +7,20 @@ use Rattle.parts.proofs.Numbered.{refused-before, no-such, is-there}
 use Rattle.parts.proofs.tile_refusal.Statement.{statement}
 use Rattle.parts.proofs.tile_refusal.Tie as tie
 
+ruleset answers = (refused-before, no-such, is-there, le-yes, le-no)
+
+returns : tie.Need-returns
+unfolding verdict tileVerdict
+returns c = search answers
+
+returns-2 : tie.Need-returns-2
+unfolding verdict tileVerdict
+returns-2 c = search answers
+
+returns-3 : tie.Need-returns-3
+unfolding verdict tileVerdict
+returns-3 c = search answers
+
 pub tile-refusal-spec : {M : Type 1} → statement M
 unfolding verdict tileVerdict
 tile-refusal-spec =
@@ -16,6 +30,6 @@ tile-refusal-spec =
     (λ c. search needs)
     (λ c. search needs)
     (λ c κs. search accepted)
-    (λ c. search (no-such, le-yes))
-    (λ c. search refused-before)
-    (λ c. search (is-there, le-no)))
+    returns
+    returns-2
+    returns-3)

@@ -4,6 +4,12 @@ use borrow.Author.Needs.{needs}
 use Rattle.selection.proofs.place_if_selected.Statement.{statement}
 use Rattle.selection.proofs.place_if_selected.Tie as tie
 
+returns : tie.Need-returns
+returns c = search flags depth 8
+
+returns-2 : tie.Need-returns-2
+returns-2 c = search flags depth 8
+
 pub place-if-selected-spec : {M : Type 1} → statement M
 place-if-selected-spec =
-    tie.close (tie.spec (λ c κs. search needs) (λ c. search flags depth 8) (λ c. search flags depth 8))
+    tie.close (tie.spec (λ c κs. search needs) returns returns-2)

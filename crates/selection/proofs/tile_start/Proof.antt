@@ -6,6 +6,14 @@ use Rattle.selection.specs.Select.{tileStart}
 use Rattle.selection.proofs.tile_start.Statement.{statement}
 use Rattle.selection.proofs.tile_start.Tie as tie
 
+returns : tie.Need-returns
+unfolding tileStart
+returns c = rw (← c .before .letter-place .ensures) (search flags depth 8)
+
+returns-2 : tie.Need-returns-2
+unfolding tileStart
+returns-2 c = search flags depth 8
+
 pub tile-start-spec : {M : Type 1} → statement M
 unfolding tileStart
 tile-start-spec =
@@ -14,5 +22,5 @@ tile-start-spec =
     (λ c κs. search needs)
     (λ c κs. search needs)
     (λ c κs. search letter-in)
-    (λ c. rw (← c .before .letter-place .ensures) (search flags depth 8))
-    (λ c. search flags depth 8))
+    returns
+    returns-2)
