@@ -7,14 +7,23 @@ use Rattle.listing.proofs.Boxes.{Boxing, boxing-start, boxing-next, box
 use Rattle.listing.proofs.corners_of.Statement.{statement}
 use Rattle.listing.proofs.corners_of.Tie as tie
 
+abbrev Inv-loop : tie.InvT-loop
+Inv-loop s n c₀ e₀ k₀ c e k = Boxing s n c e k
+
+abbrev μ-loop : tie.MeasureT-loop
+μ-loop s n c₀ e₀ k₀ c e k = n - k
+
+loop-holds : tie.Need-loop-holds Inv-loop μ-loop
+loop-holds c = search boxing-start
+
 pub corners-of-spec : {M : Type 1} → statement M
 corners-of-spec =
     tie.close
     (tie.spec
-    (λ s n c₀ e₀ k₀ c e k. Boxing s n c e k)
-    (λ s n c₀ e₀ k₀ c e k. n - k)
+    Inv-loop
+    μ-loop
     (λ c κs. search (accepted-long, accepted-entries))
-    (λ c. search boxing-start)
+    loop-holds
     (λ c κs. search (at-whole, at-dimensions))
     (λ c κs. search at-fixed)
     (λ c. omega arith)

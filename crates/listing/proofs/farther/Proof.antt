@@ -4,8 +4,11 @@ use Rattle.listing.specs.Summary.{farEdge}
 use Rattle.listing.proofs.farther.Statement.{statement}
 use Rattle.listing.proofs.farther.Tie as tie
 
-pub farther-spec : {M : Type 1} → statement M
+returns : tie.Need-returns
 unfolding farEdge
+returns c = cc
+
+pub farther-spec : {M : Type 1} → statement M
 farther-spec =
     tie.close
     (tie.spec
@@ -14,4 +17,4 @@ farther-spec =
     (λ c κs. search needs)
     (λ c. search needs)
     (λ c κs. search needs)
-    (λ c. cc))
+    returns)

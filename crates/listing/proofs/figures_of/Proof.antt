@@ -4,8 +4,11 @@ use Rattle.listing.specs.Figures.{figuresOf}
 use Rattle.listing.proofs.figures_of.Statement.{statement}
 use Rattle.listing.proofs.figures_of.Tie as tie
 
-pub figures-of-spec : {M : Type 1} → statement M
+returns : tie.Need-returns
 unfolding figuresOf
+returns c = cc
+
+pub figures-of-spec : {M : Type 1} → statement M
 figures-of-spec =
     tie.close
     (tie.spec
@@ -13,4 +16,4 @@ figures-of-spec =
     (λ c κs. search needs)
     (λ c κs. search needs)
     (λ c κs. search needs)
-    (λ c. cc))
+    returns)

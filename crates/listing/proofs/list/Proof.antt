@@ -5,6 +5,9 @@ use Rattle.listing.proofs.Texts.{figures-held, listing-long, listing-re
 use Rattle.listing.proofs.list.Statement.{statement}
 use Rattle.listing.proofs.list.Tie as tie
 
+returns : tie.Need-returns
+returns c = listing-long _ _ (c .before .if1 .taken) (c .refusal-text .ensures)
+
 returns-2 : tie.Need-returns-2
 returns-2 c =
     let j = c .before .before .before .before in
@@ -21,7 +24,7 @@ list-spec =
     tie.close
     (tie.spec
     (λ c κs. search needs)
-    (λ c. listing-long _ _ (c .before .if1 .taken) (c .refusal-text .ensures))
+    returns
     (λ c κs. search needs)
     (λ c. search needs)
     (λ c κs. search needs)

@@ -14,8 +14,11 @@ returns c =
     let three = appended-both _ _ _ _ _ two (c .before .put-coordinate2 .ensures .0) in
     (rw (b .before .if1 .taken) (appended-both _ _ _ _ _ three (c .put-coordinate3 .ensures .0)), omega arith)
 
-pub put-corners-spec : {M : Type 1} → statement M
+returns-2 : tie.Need-returns-2
 unfolding boxText wordNone
+returns-2 c = (rw (c .before .before .if1 .left) (c .put .ensures), omega (arith, c .put .ensures .length-is))
+
+pub put-corners-spec : {M : Type 1} → statement M
 put-corners-spec =
     tie.close
     (tie.spec
@@ -26,4 +29,4 @@ put-corners-spec =
     returns
     (λ c. search needs)
     (λ c κs. search needs)
-    (λ c. (rw (c .before .before .if1 .left) (c .put .ensures), omega (arith, c .put .ensures .length-is))))
+    returns-2)

@@ -15,6 +15,9 @@ Inv-loop name next₀ i₀ next i = (i ≤ length name) × Appended next₀ (tak
 abbrev μ-loop : tie.MeasureT-loop
 μ-loop name next₀ i₀ next i = length name - i
 
+loop-holds : tie.Need-loop-holds Inv-loop μ-loop
+loop-holds c = (omega arith, appended-none _ (c .before .pre .0))
+
 push-requires : tie.Need-push-requires Inv-loop μ-loop
 push-requires c κs =
     let a = c .before .before .loop .inv .1 in
@@ -39,7 +42,7 @@ put-spec =
     (tie.spec
     Inv-loop
     μ-loop
-    (λ c. (omega arith, appended-none _ (c .before .pre .0)))
+    loop-holds
     (λ c. omega arith)
     push-requires
     (λ c. omega arith)
