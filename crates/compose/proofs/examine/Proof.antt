@@ -4,6 +4,9 @@ use Rattle.compose.proofs.Examining.{judge-stops, judge-passes}
 use Rattle.compose.proofs.examine.Statement.{statement}
 use Rattle.compose.proofs.examine.Tie as tie
 
+returns : tie.Need-returns
+returns c = search judge-stops
+
 pub examine-spec : {M : Type 1} → statement M
 examine-spec =
     tie.close
@@ -12,5 +15,5 @@ examine-spec =
     (λ c. search needs)
     (λ c. search needs)
     (λ c κs. (cc, search needs))
-    (λ c. search judge-stops)
+    returns
     (λ c. search judge-passes))

@@ -4,6 +4,9 @@ use Rattle.compose.proofs.Examining.{asked-window, ask-stops, ask-passe
 use Rattle.compose.proofs.examine_question.Statement.{statement}
 use Rattle.compose.proofs.examine_question.Tie as tie
 
+examine-tiles-requires : tie.Need-examine-tiles-requires
+examine-tiles-requires c κs = search (needs, asked-window)
+
 returns : tie.Need-returns
 returns c = search ask-stops
 
@@ -14,6 +17,6 @@ examine-question-spec =
     (λ c κs. search needs)
     (λ c. search needs)
     (λ c. search needs)
-    (λ c κs. search (needs, asked-window))
+    examine-tiles-requires
     returns
     (λ c. search ask-passes))
