@@ -1,5 +1,5 @@
 -- Where the parts of a judged sub-block lie: all in its file. Assumes nothing.
-use Prim.Native.Nat.{ℕ, _+_, _-_, _^_, _≤_, _<_}
+use Prim.Native.Nat.{ℕ, _+_, _-_, _*_, _^_, _≤_, _<_}
 use mathlib.Core.Path.{_≡_, refl, sym, _∙_}
 use mathlib.Core.List.{List, []}
 use mathlib.Core.Bool.{Bool, true, false, cond, not}
@@ -40,6 +40,12 @@ module _ (ds : List ℕ) (e : ℕ) (h : Listed ds e) where
 
   pub bytes-some : (t b : ℕ) → t ≡ pixelType ds e → b ≡ pixelBytes t → 0 < b
   bytes-some t b i j = let k : (b ≡ 0) → ⊥ = λ z. h .pixel (rw (← i) (sym j ∙ z)) in omega (arith, k)
+
+-- r says whether z is x times y times b, which were read as the stored sizes of X, at u, and Y, at v, and as the bytes a pixel of the type t
+pub product-read : (ds : List ℕ) (e z u v x y t b : ℕ) (r : Bool) → u ≡ letterPlace ds e 88 → x ≡ stored ds u → v ≡ letterPlace ds e 89 → y ≡ stored ds v
+    → t ≡ pixelType ds e → b ≡ pixelBytes t → r ≡ eqb z (x * y * b) → r ≡ eqb z (pixelsSize ds e)
+unfolding pixelsSize
+product-read ds e z u v x y t b r i j k l m n o = rw (← i, ← j, ← k, ← l, ← m, ← n) o
 
 -- the fixed part F
 pub record Fixed (ds : List ℕ) (e : ℕ) (bs : List ℕ) (q : ℕ) : Type 0 where

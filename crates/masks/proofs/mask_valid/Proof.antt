@@ -21,7 +21,8 @@ unfolding maskValid
 returns c = search flags depth 8
 
 returns-3 : tie.Need-returns-3
-returns-3 c = search bit-read
+unfolding maskValid
+returns-3 c = search (flags, bit-read) depth 8
 
 pub mask-valid-spec : {M : Type 1} → statement M
 unfolding maskValid

@@ -1,14 +1,12 @@
 -- `subblocks::is_pixels_size` meets its contract.
 use borrow.Author.Needs.{needs}
-use Rattle.format.specs.SubBlock.{pixelsSize}
 use Rattle.entries.proofs.EntryLaws.{x-in, y-in}
-use Rattle.subblocks.proofs.PartLaws.{listed-in, x-stored, y-stored, bytes-some}
+use Rattle.subblocks.proofs.PartLaws.{listed-in, x-stored, y-stored, bytes-some, product-read}
 use Rattle.subblocks.proofs.is_pixels_size.Statement.{statement}
 use Rattle.subblocks.proofs.is_pixels_size.Tie as tie
 
 returns : tie.Need-returns
-unfolding pixelsSize
-returns c = cc
+returns c = search product-read
 
 pub is-pixels-size-spec : {M : Type 1} → statement M
 is-pixels-size-spec =
