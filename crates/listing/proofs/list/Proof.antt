@@ -1,4 +1,5 @@
 -- `listing::list` meets its contract.
+use native.Mathlib.Omega.{arith}
 use borrow.Author.Needs.{needs}
 use Rattle.format.proofs.Answering.{accepted}
 use Rattle.listing.proofs.Texts.{figures-held, listing-long, listing-refused, listing-accepted}
@@ -6,18 +7,18 @@ use Rattle.listing.proofs.list.Statement.{statement}
 use Rattle.listing.proofs.list.Tie as tie
 
 returns : tie.Need-returns
-returns c = listing-long _ _ (c .before .if1 .taken) (c .refusal-text .ensures)
+returns c = listing-long _ _ (omega arith) (c .refusal-text .ensures)
 
 returns-2 : tie.Need-returns-2
 returns-2 c =
     let j = c .before .before .before .before in
-    listing-refused _ _ _ _ _ (j .before .if1 .left) (j .judge .ensures .answer-is) (c .before .before .v .given .1) (c .refusal-text2 .ensures)
+    listing-refused _ _ _ _ _ (omega arith) (j .judge .ensures .answer-is) (c .before .before .v .given .1) (c .refusal-text2 .ensures)
 
 returns-3 : tie.Need-returns-3
 returns-3 c =
     let j = c .before .before .before .before in
     let a = accepted (j .judge .ensures) (c .before .before .enum-told .given .1) in
-    listing-accepted _ _ _ (j .before .if1 .left) a (c .before .figures-of .ensures) (c .figures-text .ensures)
+    listing-accepted _ _ _ (omega arith) a (c .before .figures-of .ensures) (c .figures-text .ensures)
 
 pub list-spec : {M : Type 1} → statement M
 list-spec =
