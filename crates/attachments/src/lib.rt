@@ -10,6 +10,7 @@ ghost use Rattle.format.specs.Segments.{room, RoomIn};
 ghost use Rattle.format.specs.File.{metadataPosition, attachmentDirectoryPosition};
 ghost use Rattle.format.specs.Attachments.{xmlSize, xmlAttachmentSize, metadataBad, metadataRows, attachmentEntryCount, attachmentEntry};
 ghost use Rattle.format.specs.Attachments.{attachmentDirectoryBad};
+ghost use Rattle.format.specs.Attachments.{attachmentGuid, attachmentType, attachmentName};
 ghost use Rattle.format.specs.Attachments.{attachmentPosition, attachmentPart, attachmentDataSize, attachmentEntryBad, attachmentBad};
 ghost use Rattle.format.specs.Attachments.{attachmentDataBad, attachmentEntryRows, attachmentsRows};
 ghost use Rattle.segments.specs.Walk.{WalkTable};
@@ -130,6 +131,36 @@ fn attachment_part(s: &[u8], e: u64) -> u64
     ensures { λ r. ⌜ (r ≡ attachmentPart (now (s .entry)) e) × (r < 2 ^ 32) ⌝ }
 {
     fields::u32_at(s, e + 20)
+}
+
+// The content GUID of the entry at e, as its 16 bytes stand.
+pub fn content_guid(s: &[u8], e: u64) -> [u8; 16]
+    requires { ⌜ e + 128 ≤ length (now s) ⌝ }
+    ensures { λ r. ⌜ r ≡ attachmentGuid (now (s .entry)) e ⌝ }
+{
+    let mut out = [0u8; 16];
+    fields::copy_out(&mut out, s, e + 24);
+    out
+}
+
+// Its file type: 8 bytes.
+pub fn file_type(s: &[u8], e: u64) -> [u8; 8]
+    requires { ⌜ e + 128 ≤ length (now s) ⌝ }
+    ensures { λ r. ⌜ r ≡ attachmentType (now (s .entry)) e ⌝ }
+{
+    let mut out = [0u8; 8];
+    fields::copy_out(&mut out, s, e + 40);
+    out
+}
+
+// Its name: 80 bytes.
+pub fn attachment_name(s: &[u8], e: u64) -> [u8; 80]
+    requires { ⌜ e + 128 ≤ length (now s) ⌝ }
+    ensures { λ r. ⌜ r ≡ attachmentName (now (s .entry)) e ⌝ }
+{
+    let mut out = [0u8; 80];
+    fields::copy_out(&mut out, s, e + 48);
+    out
 }
 
 // DataSize of the attachment at q.

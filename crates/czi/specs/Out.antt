@@ -5,14 +5,17 @@ use mathlib.Core.List.{List, _++_}
 use lib.ListN.{length, replicate}
 use lib.IntN.{ℤ}
 use Rattle.format.specs.Checks.{numberOf, placeOf, ifAccepted}
-use Rattle.format.specs.Answers.{noDimension}
+use Rattle.format.specs.Attachments.{attachmentGuid, attachmentType, attachmentName}
+use Rattle.format.specs.Answers.{noDimension, noAttachment}
 use Rattle.format.specs.declared.Verdict.{Verdict}
 use Rattle.format.specs.declared.Span.{Span}
 use Rattle.format.specs.declared.Tile.{Tile}
 use Rattle.format.specs.declared.Dimension.{Dimension}
+use Rattle.format.specs.declared.Attachment.{Attachment}
 use Rattle.listing.specs.Summary.{noSummary}
 use Rattle.listing.specs.declared.Summary.{Summary}
-use Rattle.czi.specs.Numbers.{tileNumbers, tileStarts, boxNumbers}
+use Rattle.records.specs.Numbers.{tileNumbers, tileStarts}
+use Rattle.czi.specs.Numbers.{boxNumbers}
 
 -- the interface's number: it rises with every changed signature or array length
 abbrev pub interfaceNumber : ℕ
@@ -37,6 +40,12 @@ pub record TileOut (v : Verdict) (t : Tile) (numbers₀ : List ℕ) (starts₀ :
   pub numbers-are : numbers ≡ ifAccepted v (tileNumbers t) numbers₀
   pub starts-are : starts ≡ ifAccepted v (tileStarts t) starts₀
 
+-- all records of a kind, of which there are `rows` in an accepted file, by the verdict v; `file` is the file's own
+pub record TableOut (file v : Verdict) (rows number place count : ℕ) : Type 0 where
+  pub number-is : number ≡ numberOf v
+  pub place-is : place ≡ placeOf v
+  pub count-is : count ≡ ifAccepted file rows 0
+
 -- a dimension record, all zero where v refuses
 pub record DimensionOut (v : Verdict) (d : Dimension) (number place letter : ℕ) (start : ℤ) (size bits stored : ℕ) : Type 0 where
   pub number-is : number ≡ numberOf v
@@ -46,6 +55,16 @@ pub record DimensionOut (v : Verdict) (d : Dimension) (number place letter : ℕ
   pub size-is : size ≡ ifAccepted v d noDimension .size
   pub bits-are : bits ≡ ifAccepted v d noDimension .«coordinate_bits»
   pub stored-is : stored ≡ ifAccepted v d noDimension .stored
+
+-- an attachment record of the file bs: three arrays, which stay where v refuses, and the stretch of the data, 0 and 0 there
+pub record AttachmentOut (v : Verdict) (bs : List ℕ) (a : Attachment) (guid₀ type₀ name₀ guid type name : List ℕ) (number place start length : ℕ) : Type 0 where
+  pub number-is : number ≡ numberOf v
+  pub place-is : place ≡ placeOf v
+  pub guid-is : guid ≡ ifAccepted v (attachmentGuid bs (a .place)) guid₀
+  pub type-is : type ≡ ifAccepted v (attachmentType bs (a .place)) type₀
+  pub name-is : name ≡ ifAccepted v (attachmentName bs (a .place)) name₀
+  pub start-is : start ≡ ifAccepted v a noAttachment .«data» .start
+  pub length-is : length ≡ ifAccepted v a noAttachment .«data» .length
 
 -- a summary, all zero where v refuses
 pub record SummaryOut (v : Verdict) (s : Summary) (number place bytes segments tiles attachments box : ℕ) (left top right bottom : ℤ) : Type 0 where

@@ -1,119 +1,24 @@
-// The tile record and the dimension record, as numbers.
+// The records as numbers: one tile's, dimension's or attachment's, and all tiles' or dimensions' at once.
 use crate::verdict::number_of;
 use crate::verdict::place_of;
+use format::AttachmentAnswer;
 use format::Dimension;
 use format::DimensionAnswer;
-use format::MIndex;
-use format::Tile;
 use format::TileAnswer;
-use format::TileMask;
 use format::Verdict;
+use records::numbers::tile_numbers;
+use records::numbers::tile_starts;
 ghost use mathlib.Core.Path.{_≡_};
 ghost use Rattle.format.specs.Scan.{scanOf};
-ghost use Rattle.format.specs.Rules.{tileVerdict};
-ghost use Rattle.format.specs.Records.{dimensionVerdict, tileRecord, dimensionRecord};
+ghost use lib.ListN.{length};
+ghost use Rattle.format.specs.Directory.{tileCount};
+ghost use Rattle.format.specs.Rules.{verdict, tileVerdict, attachmentVerdict};
+ghost use Rattle.format.specs.Records.{dimensionVerdict, tileRecord, dimensionRecord, attachmentRecord};
 ghost use Rattle.format.specs.Answers.{dimensionVerdictIn, dimensionIn};
-ghost use Rattle.czi.specs.Numbers.{mIndexNumbers, maskNumbers, tileNumbers, tileStarts};
-ghost use Rattle.czi.specs.Out.{TileOut, DimensionOut};
+ghost use Rattle.records.specs.Tables.{tilesVerdict, TileArrays, dimensionTotal, dimensionsVerdict, DimensionArrays};
+ghost use Rattle.czi.specs.Out.{TileOut, TableOut, DimensionOut, AttachmentOut};
 
-// Whether a tile has an M, as 1 or 0, and where it starts, 0 where there is none.
-pub struct MIndexNumbers {
-    pub some: u64,
-    pub start: i32,
-}
-
-// Whether a tile has a mask, as 1 or 0, the place of its chunk's header and its dimensions, 0 where there is none.
-pub struct MaskNumbers {
-    pub some: u64,
-    pub place: u64,
-    pub width: u64,
-    pub height: u64,
-    pub stride: u64,
-}
-
-// ---- the tile record
-
-// A tile's M as numbers.
-fn m_index_numbers(m: MIndex) -> MIndexNumbers
-    ensures { λ r. ⌜ r ≡ mIndexNumbers m ⌝ }
-{
-    match m {
-        MIndex::M(start) => MIndexNumbers { some: 1, start },
-        MIndex::NoM => MIndexNumbers { some: 0, start: 0 },
-    }
-}
-
-// A tile's mask as numbers.
-fn mask_numbers(m: TileMask) -> MaskNumbers
-    ensures { λ r. ⌜ r ≡ maskNumbers m ⌝ }
-{
-    match m {
-        TileMask::Masked { place, shape } => MaskNumbers {
-            some: 1,
-            place,
-            width: shape.width,
-            height: shape.height,
-            stride: shape.stride,
-        },
-        TileMask::Unmasked => MaskNumbers {
-            some: 0,
-            place: 0,
-            width: 0,
-            height: 0,
-            stride: 0,
-        },
-    }
-}
-
-// The record's numbers, in the order of include/czi.h.
-fn tile_numbers(t: Tile) -> [u64; 22]
-    ensures { λ r. ⌜ r ≡ tileNumbers t ⌝ }
-{
-    let x = t.x;
-    let y = t.y;
-    let metadata = t.metadata;
-    let pixels = t.pixels;
-    let attachment = t.attachment;
-    let m = t.m;
-    let index = m_index_numbers(m);
-    let k = t.mask;
-    let mask = mask_numbers(k);
-    [
-        t.entry,
-        t.place,
-        t.pixel_type,
-        t.position,
-        t.pyramid,
-        t.dimensions,
-        x.size,
-        x.stored,
-        y.size,
-        y.stored,
-        index.some,
-        metadata.start,
-        metadata.length,
-        pixels.start,
-        pixels.length,
-        attachment.start,
-        attachment.length,
-        mask.some,
-        mask.place,
-        mask.width,
-        mask.height,
-        mask.stride,
-    ]
-}
-
-// Its signed numbers: where X, Y and M start.
-fn tile_starts(t: Tile) -> [i32; 3]
-    ensures { λ r. ⌜ r ≡ tileStarts t ⌝ }
-{
-    let x = t.x;
-    let y = t.y;
-    let m = t.m;
-    let index = m_index_numbers(m);
-    [x.start, y.start, index.start]
-}
+// ---- tiles
 
 // The tile record. A refused call leaves numbers and starts as they were.
 #[no_mangle]
@@ -142,7 +47,26 @@ pub extern "C" fn czi_tile(
     }
 }
 
-// ---- the dimension record
+// Every tile record, a row a tile in each array. A refused call leaves both as they were; tiles is how many an accepted file has.
+#[no_mangle]
+pub extern "C" fn czi_tiles(
+    file: &[u8],
+    numbers: &mut [u64],
+    starts: &mut [i32],
+    place: &mut u64,
+    tiles: &mut u64,
+) -> u32
+    ensures { λ r. ⌜ TableOut (verdict (scanOf (now (file .entry)))) (tilesVerdict (scanOf (now (file .entry))) (length (now (numbers .entry))) (length (now (starts .entry)))) (tileCount (now (file .entry))) r (now (place .exit)) (now (tiles .exit)) ⌝ }
+    ensures { λ _. ⌜ TileArrays (scanOf (now (file .entry))) (now (numbers .entry)) (now (starts .entry)) (now (numbers .exit)) (now (starts .exit)) ⌝ }
+{
+    let t = records::tiles::tiles(file, numbers, starts);
+    let v = t.verdict;
+    *place = place_of(v);
+    *tiles = t.rows;
+    number_of(v)
+}
+
+// ---- dimensions
 
 // The dimension record that an answer has, all zero where it is refused.
 fn dimension_in(a: DimensionAnswer) -> Dimension
@@ -200,4 +124,64 @@ pub extern "C" fn czi_dimension(
     *coordinate_bits = d.coordinate_bits;
     *stored = d.stored;
     number_of(v)
+}
+
+// Every dimension record, a row a dimension in each array, tile by tile. A refused call leaves both as they were; dimensions is how many the
+// tiles of an accepted file have.
+#[no_mangle]
+pub extern "C" fn czi_dimensions(
+    file: &[u8],
+    numbers: &mut [u64],
+    starts: &mut [i32],
+    place: &mut u64,
+    dimensions: &mut u64,
+) -> u32
+    ensures { λ r. ⌜ TableOut (verdict (scanOf (now (file .entry)))) (dimensionsVerdict (scanOf (now (file .entry))) (length (now (numbers .entry))) (length (now (starts .entry)))) (dimensionTotal (scanOf (now (file .entry)))) r (now (place .exit)) (now (dimensions .exit)) ⌝ }
+    ensures { λ _. ⌜ DimensionArrays (scanOf (now (file .entry))) (now (numbers .entry)) (now (starts .entry)) (now (numbers .exit)) (now (starts .exit)) ⌝ }
+{
+    let t = records::dimensions::dimensions(file, numbers, starts);
+    let v = t.verdict;
+    *place = place_of(v);
+    *dimensions = t.rows;
+    number_of(v)
+}
+
+// ---- attachments
+
+// The attachment record: the entry's GUID, file type and name as their bytes stand, and the stretch of its data. A refused call leaves the
+// three arrays as they were.
+#[no_mangle]
+pub extern "C" fn czi_attachment(
+    file: &[u8],
+    entry: u64,
+    place: &mut u64,
+    guid: &mut [u8; 16],
+    file_type: &mut [u8; 8],
+    name: &mut [u8; 80],
+    start: &mut u64,
+    length: &mut u64,
+) -> u32
+    ensures { λ r. ⌜ AttachmentOut (attachmentVerdict (scanOf (now (file .entry))) entry) (now (file .entry)) (attachmentRecord (scanOf (now (file .entry))) entry) (now (guid .entry)) (now («file_type» .entry)) (now (name .entry)) (now (guid .exit)) (now («file_type» .exit)) (now (name .exit)) r (now (place .exit)) (now (start .exit)) (now (length .exit)) ⌝ }
+{
+    let a = parts::attachment(file, entry);
+    match a {
+        AttachmentAnswer::Refused { number, place: at } => {
+            let v = Verdict::Refused { number, place: at };
+            *place = place_of(v);
+            *start = 0;
+            *length = 0;
+            number_of(v)
+        }
+        AttachmentAnswer::Found(t) => {
+            let e = t.place;
+            let data = t.data;
+            *place = 0;
+            *guid = attachments::content_guid(file, e);
+            *file_type = attachments::file_type(file, e);
+            *name = attachments::attachment_name(file, e);
+            *start = data.start;
+            *length = data.length;
+            0
+        }
+    }
 }

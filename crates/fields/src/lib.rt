@@ -4,7 +4,7 @@ ghost use Prim.Native.Nat.{_+_, _*_, _<_, _≤_, _^_};
 ghost use lib.ListN.{getD, length};
 ghost use lib.Dec.{eqb};
 ghost use lib.Ieee.{ofBits, binary32};
-ghost use Rattle.format.specs.Bytes.{u32At, u64At, sameAt, sameRange, signed32, biased, shifted};
+ghost use Rattle.format.specs.Bytes.{u32At, u64At, sameAt, sameRange, signed32, biased, shifted, partOf};
 ghost use Rattle.format.specs.Records.{span};
 ghost use Rattle.format.specs.Views.{View};
 
@@ -88,6 +88,19 @@ pub fn part(s: &[u8], p: u64, n: u64) -> &[u8]
     let from = p as usize;
     let to = (p + n) as usize;
     &s[from..to]
+}
+
+// Copies the bytes from p on, as many as `out` has.
+pub fn copy_out(out: &mut [u8], s: &[u8], p: u64)
+    requires { ⌜ p + length (now out) ≤ length (now s) ⌝ }
+    ensures { λ _. ⌜ now (out .exit) ≡ partOf (now (s .entry)) p (length (now (out .entry))) ⌝ }
+{
+    let from = p as usize;
+    let mut i: usize = 0;
+    while i < out.len() {
+        out[i] = s[from + i];
+        i += 1;
+    }
 }
 
 // The value of an Int of these bits.

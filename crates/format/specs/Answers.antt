@@ -4,7 +4,7 @@ use mathlib.Core.Path.{_≡_}
 use lib.IntN.{pos}
 use lib.Ieee.{ofBits, binary32}
 use Rattle.format.specs.Checks.{numberOf, placeOf, ifAccepted}
-use Rattle.format.specs.Records.{span, tileIf, dimensionIf}
+use Rattle.format.specs.Records.{span, tileIf, dimensionIf, attachmentIf}
 use Rattle.format.specs.declared.Verdict.{Verdict}
 use Rattle.format.specs.declared.Verdict.the-variants as Is
 use Rattle.format.specs.declared.Span.{Span}
@@ -19,6 +19,9 @@ use Rattle.format.specs.declared.TileAnswer.the-variants as TileIs
 use Rattle.format.specs.declared.Dimension.{Dimension}
 use Rattle.format.specs.declared.DimensionAnswer.{DimensionAnswer}
 use Rattle.format.specs.declared.DimensionAnswer.the-variants as DimensionIs
+use Rattle.format.specs.declared.Attachment.{Attachment}
+use Rattle.format.specs.declared.AttachmentAnswer.{AttachmentAnswer}
+use Rattle.format.specs.declared.AttachmentAnswer.the-variants as AttachmentIs
 
 -- ---- a verdict v is answered as r
 
@@ -101,3 +104,23 @@ pub record DimensionAnswered (v : Verdict) (d : Dimension) (r : DimensionAnswer)
   pub number-is : numberOf (dimensionVerdictIn r) ≡ numberOf v
   pub place-is : placeOf (dimensionVerdictIn r) ≡ placeOf v
   pub dimension-is : dimensionIn r ≡ ifAccepted v d noDimension
+
+-- ---- the attachment record
+
+abbrev pub noAttachment : Attachment
+noAttachment = record { place = 0; position = 0; «data» = span 0 0 }
+
+abbrev pub attachmentVerdictIn : AttachmentAnswer → Verdict
+attachmentVerdictIn (AttachmentIs.Found a) = Is.Accepted
+attachmentVerdictIn (AttachmentIs.Refused n p) = Is.Refused n p
+
+abbrev pub attachmentIn : AttachmentAnswer → Attachment
+attachmentIn (AttachmentIs.Found a) = a
+attachmentIn (AttachmentIs.Refused n p) = noAttachment
+
+-- by the verdict v the record a is answered as r
+pub record AttachmentAnswered (v : Verdict) (a : Attachment) (r : AttachmentAnswer) : Type 0 where
+  pub answer-is : r ≡ attachmentIf v a
+  pub number-is : numberOf (attachmentVerdictIn r) ≡ numberOf v
+  pub place-is : placeOf (attachmentVerdictIn r) ≡ placeOf v
+  pub attachment-is : attachmentIn r ≡ ifAccepted v a noAttachment

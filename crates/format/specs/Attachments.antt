@@ -4,7 +4,7 @@ use mathlib.Core.List.{List, [], _∷_}
 use mathlib.Core.Bool.{Bool, cond, not}
 use lib.ListN.{getD}
 use lib.Dec.{eqb, ltb}
-use Rattle.format.specs.Bytes.{u32At, u64At, sameAt, sameRange, anyOf, anyBelow, negative32}
+use Rattle.format.specs.Bytes.{u32At, u64At, partOf, sameAt, sameRange, anyOf, anyBelow, negative32}
 use Rattle.format.specs.Names.{nameAttachment, markAttachment}
 use Rattle.format.specs.Checks.{Check, row, rowsBelow}
 use Rattle.format.specs.Segments.{room, walkedAs}
@@ -57,13 +57,22 @@ attachmentCount bs =
     cond (eqb (attachmentDirectoryPosition bs) 0) 0
     (attachmentEntryCount bs (attachmentDirectoryPosition bs))
 
--- ---- an entry A1: `A1` at 0, FilePosition Long 12, FilePart Int 20, name 48 (80 bytes, a zero byte within)
+-- ---- an entry A1: `A1` at 0, FilePosition Long 12, FilePart Int 20, content GUID 24, file type 40 (8 bytes), name 48 (80 bytes, a zero byte within)
 
 unfoldable pub attachmentPosition : List ℕ → ℕ → ℕ
 attachmentPosition bs e = u64At bs (e + 12)
 
 unfoldable pub attachmentPart : List ℕ → ℕ → ℕ
 attachmentPart bs e = u32At bs (e + 20)
+
+unfoldable pub attachmentGuid : List ℕ → ℕ → List ℕ
+attachmentGuid bs e = partOf bs (e + 24) 16
+
+unfoldable pub attachmentType : List ℕ → ℕ → List ℕ
+attachmentType bs e = partOf bs (e + 40) 8
+
+unfoldable pub attachmentName : List ℕ → ℕ → List ℕ
+attachmentName bs e = partOf bs (e + 48) 80
 
 -- refusal 11: no mark, or no zero byte in the name
 unfoldable pub attachmentEntryBad : List ℕ → ℕ → Bool

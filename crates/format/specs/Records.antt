@@ -1,4 +1,4 @@
--- What is handed out of an accepted file: the tile record, the dimension record, and the stretches of the views.
+-- What is handed out of an accepted file: the records of a tile, of a dimension, of an attachment, and the stretches of the views.
 use Prim.Native.Nat.{ℕ, _+_}
 use mathlib.Core.List.{List, [], _∷_, _++_}
 use mathlib.Core.Bool.{cond}
@@ -28,6 +28,9 @@ use Rattle.format.specs.declared.TileAnswer.{TileAnswer}
 use Rattle.format.specs.declared.TileAnswer.the-variants as TA
 use Rattle.format.specs.declared.DimensionAnswer.{DimensionAnswer}
 use Rattle.format.specs.declared.DimensionAnswer.the-variants as DA
+use Rattle.format.specs.declared.Attachment.{Attachment}
+use Rattle.format.specs.declared.AttachmentAnswer.{AttachmentAnswer}
+use Rattle.format.specs.declared.AttachmentAnswer.the-variants as AA
 
 -- ---- entry n of a scan: where it stands, the file that it names, and where its sub-block stands there
 
@@ -135,6 +138,24 @@ dimensionIf (Is.Refused n p) d = DA.Refused n p
 unfoldable pub dimensionRecord : Scan → ℕ → ℕ → Dimension
 dimensionRecord sc n k = dimensionAt (sc .file) (dimensionPlace (tileEntry sc n) k)
 
+-- ---- the attachment record
+
+-- the data of the attachment at q, from 256
+unfoldable pub attachmentDataSpan : List ℕ → ℕ → Span
+attachmentDataSpan bs q = span (q + 288) (attachmentDataSize bs q)
+
+-- of the entry at e
+unfoldable pub attachmentAt : List ℕ → ℕ → Attachment
+attachmentAt bs e = record { place = e; position = attachmentPosition bs e; «data» = attachmentDataSpan bs (attachmentPosition bs e) }
+
+-- of attachment n of a scan
+unfoldable pub attachmentRecord : Scan → ℕ → Attachment
+attachmentRecord sc n = attachmentAt (sc .file) (attachmentEntry (attachmentDirectoryPosition (sc .file)) n)
+
+abbrev pub attachmentIf : Verdict → Attachment → AttachmentAnswer
+attachmentIf Is.Accepted a = AA.Found a
+attachmentIf (Is.Refused n p) a = AA.Refused n p
+
 -- ---- the stretches of the views: the empty one where refused
 
 unfoldable pub tilePixels : Scan → ℕ → Span
@@ -145,10 +166,6 @@ tileMetadata sc n = spanIf (tileVerdict sc n) (metadataSpan (sc .file) (tileEntr
 
 unfoldable pub tileAttachment : Scan → ℕ → Span
 tileAttachment sc n = spanIf (tileVerdict sc n) (attachmentSpan (sc .file) (tileEntry sc n) (tileFile sc n) (tilePosition sc n))
-
--- the data of the attachment at q, from 256
-unfoldable pub attachmentDataSpan : List ℕ → ℕ → Span
-attachmentDataSpan bs q = span (q + 288) (attachmentDataSize bs q)
 
 unfoldable pub attachmentData : Scan → ℕ → Span
 attachmentData sc n =

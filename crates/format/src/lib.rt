@@ -90,6 +90,19 @@ pub enum DimensionAnswer {
     Refused { number: u64, place: u64 },
 }
 
+// The attachment record: where its entry and itself stand in the file, and the stretch of its data.
+pub struct Attachment {
+    pub place: u64,
+    pub position: u64,
+    pub data: Span,
+}
+
+// What is answered to a question for an attachment record.
+pub enum AttachmentAnswer {
+    Found(Attachment),
+    Refused { number: u64, place: u64 },
+}
+
 // What is answered to a question for a part of the file.
 pub enum SpanAnswer {
     Found(Span),

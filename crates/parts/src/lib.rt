@@ -1,4 +1,6 @@
 // What a user is handed out of a file of any bytes: records and parts of it by number. Each question judges the whole file first.
+use format::Attachment;
+use format::AttachmentAnswer;
 use format::DimensionAnswer;
 use format::Span;
 use format::SpanAnswer;
@@ -12,8 +14,8 @@ ghost use Rattle.format.specs.Directory.{entryPlace};
 ghost use Rattle.format.specs.Attachments.{attachmentEntry, attachmentPosition};
 ghost use Rattle.format.specs.Rules.{verdict, tileVerdict, attachmentVerdict};
 ghost use Rattle.format.specs.Records.{span, dimensionVerdict, tileRecord, dimensionRecord, tilePixels, tileMetadata, tileAttachment};
-ghost use Rattle.format.specs.Records.{attachmentDataSpan, attachmentData, xmlSpan, xmlAttachmentSpan, commonXml, commonAttachment};
-ghost use Rattle.format.specs.Answers.{VerdictAnswered, SpanAnswered, TileAnswered, DimensionAnswered, spanIn};
+ghost use Rattle.format.specs.Records.{attachmentRecord, attachmentDataSpan, attachmentData, xmlSpan, xmlAttachmentSpan, commonXml, commonAttachment};
+ghost use Rattle.format.specs.Answers.{VerdictAnswered, SpanAnswered, TileAnswered, DimensionAnswered, AttachmentAnswered, spanIn};
 ghost use Rattle.format.specs.Views.{View};
 ghost use Rattle.format.specs.declared.Verdict.the-variants.{Accepted};
 
@@ -229,13 +231,20 @@ pub fn attachment_refusal(s: &[u8], n: u64) -> Verdict
     }
 }
 
+// Where the entry of attachment n stands.
+fn attachment_entry_at(s: &[u8], n: u64) -> u64
+    requires { ⌜ attachmentVerdict (scanOf (now s)) n ≡ Accepted ⌝ }
+    ensures { λ r. ⌜ r ≡ attachmentEntry (attachmentDirectoryPosition (now (s .entry))) n ⌝ }
+{
+    attachments::attachment_entry(segments::file::attachment_directory_position(s), n)
+}
+
 // Where attachment n stands.
 fn attachment_at(s: &[u8], n: u64) -> u64
     requires { ⌜ attachmentVerdict (scanOf (now s)) n ≡ Accepted ⌝ }
     ensures { λ r. ⌜ r ≡ attachmentPosition (now (s .entry)) (attachmentEntry (attachmentDirectoryPosition (now (s .entry))) n) ⌝ }
 {
-    let t = segments::file::attachment_directory_position(s);
-    attachments::attachment_position(s, attachments::attachment_entry(t, n))
+    attachments::attachment_position(s, attachment_entry_at(s, n))
 }
 
 // The stretch of the data of attachment n, which stands at q.
@@ -247,6 +256,26 @@ fn data_span(s: &[u8], n: u64, q: u64) -> Span
     let start = q + 288;
     let length = attachments::attachment_data_size(s, q);
     Span { start, length }
+}
+
+// The attachment record of number n.
+pub fn attachment(s: &[u8], n: u64) -> AttachmentAnswer
+    ensures { λ r. ⌜ AttachmentAnswered (attachmentVerdict (scanOf (now (s .entry))) n) (attachmentRecord (scanOf (now (s .entry))) n) r ⌝ }
+{
+    let v = attachment_refusal(s, n);
+    match v {
+        Verdict::Refused { number, place } => AttachmentAnswer::Refused { number, place },
+        Verdict::Accepted => {
+            let e = attachment_entry_at(s, n);
+            let q = attachment_at(s, n);
+            let data = data_span(s, n, q);
+            AttachmentAnswer::Found(Attachment {
+                place: e,
+                position: q,
+                data,
+            })
+        }
+    }
 }
 
 // The stretch of the data of attachment n.

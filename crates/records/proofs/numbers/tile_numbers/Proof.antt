@@ -1,8 +1,8 @@
--- `czi::tile_numbers` meets its contract.
-use Rattle.czi.specs.Numbers.{tileNumbers}
+-- `records::tile_numbers` meets its contract.
+use Rattle.records.specs.Numbers.{tileNumbers}
 use borrow.Author.Needs.{needs}
-use Rattle.czi.proofs.records.tile_numbers.Statement.{statement}
-use Rattle.czi.proofs.records.tile_numbers.Tie as tie
+use Rattle.records.proofs.numbers.tile_numbers.Statement.{statement}
+use Rattle.records.proofs.numbers.tile_numbers.Tie as tie
 
 returns : tie.Need-returns
 unfolding tileNumbers

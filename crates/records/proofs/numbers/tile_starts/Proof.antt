@@ -1,9 +1,9 @@
--- `czi::tile_starts` meets its contract.
+-- `records::tile_starts` meets its contract.
 use Rattle.entries.proofs.ReadBack.{read-back}
-use Rattle.czi.specs.Numbers.{tileStarts}
+use Rattle.records.specs.Numbers.{tileStarts}
 use borrow.Author.Needs.{needs}
-use Rattle.czi.proofs.records.tile_starts.Statement.{statement}
-use Rattle.czi.proofs.records.tile_starts.Tie as tie
+use Rattle.records.proofs.numbers.tile_starts.Statement.{statement}
+use Rattle.records.proofs.numbers.tile_starts.Tie as tie
 
 returns : tie.Need-returns
 unfolding tileStarts

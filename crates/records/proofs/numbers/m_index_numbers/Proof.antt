@@ -1,8 +1,8 @@
--- `czi::m_index_numbers` meets its contract.
+-- `records::m_index_numbers` meets its contract.
 use Rattle.entries.proofs.ReadBack.{read-back}
 use borrow.Author.Needs.{needs}
-use Rattle.czi.proofs.records.m_index_numbers.Statement.{statement}
-use Rattle.czi.proofs.records.m_index_numbers.Tie as tie
+use Rattle.records.proofs.numbers.m_index_numbers.Statement.{statement}
+use Rattle.records.proofs.numbers.m_index_numbers.Tie as tie
 
 pub m-index-numbers-spec : {M : Type 1} → statement M
 m-index-numbers-spec =

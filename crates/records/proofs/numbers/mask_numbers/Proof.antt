@@ -1,7 +1,7 @@
--- `czi::mask_numbers` meets its contract.
+-- `records::mask_numbers` meets its contract.
 use borrow.Author.Needs.{needs}
-use Rattle.czi.proofs.records.mask_numbers.Statement.{statement}
-use Rattle.czi.proofs.records.mask_numbers.Tie as tie
+use Rattle.records.proofs.numbers.mask_numbers.Statement.{statement}
+use Rattle.records.proofs.numbers.mask_numbers.Tie as tie
 
 pub mask-numbers-spec : {M : Type 1} → statement M
 mask-numbers-spec =
