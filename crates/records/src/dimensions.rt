@@ -47,7 +47,15 @@ fn put_dimension(s: &[u8], k: u64, e: u64, j: u64, r: u64, numbers: &mut [u64], 
 }
 
 // Puts the records of the c dimensions of tile k, whose entry stands at e, into the rows from r on.
-fn put_dimensions_of(s: &[u8], k: u64, e: u64, c: u64, r: u64, numbers: &mut [u64], starts: &mut [i32])
+fn put_dimensions_of(
+    s: &[u8],
+    k: u64,
+    e: u64,
+    c: u64,
+    r: u64,
+    numbers: &mut [u64],
+    starts: &mut [i32],
+)
     requires { ⌜ TileAt (now s) k e × (c ≡ dimensionCount (now s) e) × (r + c ≤ 65536) ⌝ }
     requires { ⌜ RowRoom 5 1 (r + c) (now numbers) (now starts) ⌝ }
     ensures { λ _. ⌜ DimensionsPut (now (s .entry)) k c r (now (numbers .entry)) (now (starts .entry)) (now (numbers .exit)) (now (starts .exit)) ⌝ }
@@ -70,8 +78,9 @@ fn put_dimensions(s: &[u8], n: u64, numbers: &mut [u64], starts: &mut [i32])
     let mut k: u64 = 0;
     while k < n {
         let c = entries::dimension_count(s, e);
+        let next = r + c;
         put_dimensions_of(s, k, e, c, r, numbers, starts);
-        r += c;
+        r = next;
         e = entries::next_entry(s, e);
         k += 1;
     }

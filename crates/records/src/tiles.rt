@@ -3,14 +3,19 @@ use crate::numbers::tile_numbers;
 use crate::numbers::tile_starts;
 use crate::rows::put_numbers;
 use crate::rows::put_starts;
+use format::Tile;
 use format::Verdict;
 ghost use mathlib.Core.Path.{_≡_};
-ghost use Prim.Native.Nat.{_+_, _≤_};
+ghost use Prim.Native.Nat.{_+_, _*_, _≤_, _<_};
 ghost use lib.ListN.{length};
+ghost use lib.IntN.{pos};
 ghost use Rattle.format.specs.Scan.{scanOf};
 ghost use Rattle.format.specs.Rules.{verdict};
 ghost use Rattle.format.specs.Directory.{tileCount};
 ghost use Rattle.format.specs.declared.Verdict.the-variants.{Accepted};
+ghost use Rattle.format.specs.Records.{tileRecord};
+ghost use Rattle.records.specs.Numbers.{tileNumbers, tileStarts};
+ghost use Rattle.records.specs.Rows.{Stretch};
 ghost use Rattle.records.specs.Tables.{short, tilesVerdict, TileRows, TileArrays, TableAnswered};
 ghost use Rattle.records.specs.Steps.{TileAt, RowRoom, TilePut};
 
@@ -34,17 +39,41 @@ pub fn too_short(n: u64, w: u64, v: u64, numbers: usize, starts: usize) -> bool
     false
 }
 
+// The record of tile k of an accepted file, whose entry stands at e.
+fn tile_of(s: &[u8], k: u64, e: u64) -> Tile
+    requires { ⌜ TileAt (now s) k e ⌝ }
+    ensures { λ r. ⌜ r ≡ tileRecord (scanOf (now (s .entry))) k ⌝ }
+{
+    let q = entries::file_position(s, e);
+    subblocks::tile_at(k, s, e, s, q)
+}
+
+// Puts a record's numbers into row k.
+fn put_tile_numbers(t: Tile, k: u64, numbers: &mut [u64])
+    requires { ⌜ (k < 4096) × (22 * (k + 1) ≤ length (now numbers)) ⌝ }
+    ensures { λ _. ⌜ Stretch 0 (22 * k) 22 (tileNumbers t) (now (numbers .entry)) (now (numbers .exit)) ⌝ }
+{
+    let row = tile_numbers(t);
+    put_numbers(numbers, (22 * k) as usize, &row);
+}
+
+// Puts its signed numbers into row k.
+fn put_tile_starts(t: Tile, k: u64, starts: &mut [i32])
+    requires { ⌜ (k < 4096) × (3 * (k + 1) ≤ length (now starts)) ⌝ }
+    ensures { λ _. ⌜ Stretch (pos 0) (3 * k) 3 (tileStarts t) (now (starts .entry)) (now (starts .exit)) ⌝ }
+{
+    let row = tile_starts(t);
+    put_starts(starts, (3 * k) as usize, &row);
+}
+
 // Puts the record of tile k, whose entry stands at e, into row k.
 fn put_tile(s: &[u8], k: u64, e: u64, numbers: &mut [u64], starts: &mut [i32])
     requires { ⌜ TileAt (now s) k e × RowRoom 22 3 (k + 1) (now numbers) (now starts) ⌝ }
     ensures { λ _. ⌜ TilePut (now (s .entry)) k (now (numbers .entry)) (now (starts .entry)) (now (numbers .exit)) (now (starts .exit)) ⌝ }
 {
-    let q = entries::file_position(s, e);
-    let t = subblocks::tile_at(k, s, e, s, q);
-    let row = tile_numbers(t);
-    put_numbers(numbers, (22 * k) as usize, &row);
-    let from = tile_starts(t);
-    put_starts(starts, (3 * k) as usize, &from);
+    let t = tile_of(s, k, e);
+    put_tile_numbers(t, k, numbers);
+    put_tile_starts(t, k, starts);
 }
 
 // Puts the records of the n tiles of an accepted file.

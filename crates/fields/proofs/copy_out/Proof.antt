@@ -1,49 +1,22 @@
+-- `fields::copy_out` meets its contract.
+use Prim.Native.Nat.{_-_}
+use native.Mathlib.Omega.{arith}
+use lib.ListN.{length}
+use Rattle.fields.proofs.Copying.{Copying, copying-start, copying-next, copying-end}
 use Rattle.fields.proofs.copy_out.Statement.{statement}
 use Rattle.fields.proofs.copy_out.Tie as tie
-use Rattle.fields.proofs.copy_out.Reads as reads
-use Rattle.fields.proofs.copy_out.Lts as lts
 
 abbrev Inv-loop : tie.InvT-loop
-Inv-loop out₀ s p from i₀ out i = ?
+Inv-loop out₀ s p from i₀ out i = Copying out₀ s p out i
 
 abbrev μ-loop : tie.MeasureT-loop
-μ-loop out₀ s p from i₀ out i = ?
+μ-loop out₀ s p from i₀ out i = length out₀ - i
 
--- src/lib.rt:100:5
-loop-holds : tie.Need-loop-holds Inv-loop μ-loop
-loop-holds c = ?
-
--- src/lib.rt:101:20
-add-out : tie.Need-add-out Inv-loop μ-loop
-add-out c = ?
-
--- src/lib.rt:101:18
-shared-slice-read-out : tie.Need-shared-slice-read-out Inv-loop μ-loop
-shared-slice-read-out c = ?
-
--- src/lib.rt:101:9
-slice-write-out : tie.Need-slice-write-out Inv-loop μ-loop
-slice-write-out c = ?
-
--- src/lib.rt:102:9
-add-i : tie.Need-add-i Inv-loop μ-loop
-add-i c = ?
-
--- src/lib.rt:100:5
-loop-less : tie.Need-loop-less Inv-loop μ-loop
-loop-less c = ?
-
--- src/lib.rt:100:5
 loop-again : tie.Need-loop-again Inv-loop μ-loop
-loop-again c = ?
+loop-again c = search copying-next
 
--- src/lib.rt:94:1
-same-length : tie.Need-same-length Inv-loop μ-loop
-same-length c = ?
-
--- src/lib.rt:94:1
 returns : tie.Need-returns Inv-loop μ-loop
-returns c = ?
+returns c = search copying-end
 
 pub copy-out-spec : {M : Type 1} → statement M
 copy-out-spec =
@@ -51,12 +24,12 @@ copy-out-spec =
     (tie.spec
     Inv-loop
     μ-loop
-    loop-holds
-    add-out
-    shared-slice-read-out
-    slice-write-out
-    add-i
-    loop-less
+    (λ c. search copying-start)
+    (λ c. omega arith)
+    (λ c. omega arith)
+    (λ c. omega arith)
+    (λ c. omega arith)
+    (λ c. omega arith)
     loop-again
-    same-length
+    (λ c. c .before .loop .inv .size)
     returns)

@@ -1,0 +1,12 @@
+-- `records::dimension_numbers` meets its contract.
+use borrow.Author.Needs.{needs}
+use Rattle.records.specs.Numbers.{dimensionNumbers}
+use Rattle.records.proofs.numbers.dimension_numbers.Statement.{statement}
+use Rattle.records.proofs.numbers.dimension_numbers.Tie as tie
+
+returns : tie.Need-returns
+unfolding dimensionNumbers
+returns c = search needs
+
+pub dimension-numbers-spec : {M : Type 1} → statement M
+dimension-numbers-spec = tie.close (tie.spec (λ c. search needs) returns)

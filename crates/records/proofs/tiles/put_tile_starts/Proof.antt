@@ -1,0 +1,19 @@
+-- `records::put_tile_starts` meets its contract.
+use borrow.Author.Needs.{needs}
+use Rattle.records.proofs.Filling.{starts-put}
+use Rattle.records.proofs.tiles.put_tile_starts.Statement.{statement}
+use Rattle.records.proofs.tiles.put_tile_starts.Tie as tie
+
+returns : tie.Need-returns
+returns c = search starts-put
+
+pub put-tile-starts-spec : {M : Type 1} → statement M
+put-tile-starts-spec =
+    tie.close
+    (tie.spec
+    (λ c κs. search needs)
+    (λ c. search needs)
+    (λ c. search needs)
+    (λ c κs. search needs)
+    (λ c. search needs)
+    returns)
