@@ -17,7 +17,7 @@ use Rattle.format.specs.Directory.{tileCount, entryPlace, headRows, tileRows, s
 use Rattle.format.specs.Attachments.{metadataRows, attachmentEntryCount, attachmentEntryRows, attachmentDirectoryRows, attachmentsRows}
 use Rattle.format.specs.Rules.{checks, verdict, tileVerdict, attachmentVerdict}
 use Rattle.format.specs.Records.{dimensionVerdict}
-use Rattle.format.specs.Answers.{VerdictAnswered, SpanAnswered, TileAnswered, DimensionAnswered, spanVerdict, dimensionVerdictIn}
+use Rattle.format.specs.Answers.{VerdictAnswered, SpanAnswered, TileAnswered, DimensionAnswered, AttachmentAnswered, spanVerdict, dimensionVerdictIn}
 use Rattle.format.specs.declared.Verdict.{Verdict}
 use Rattle.format.specs.declared.Verdict.the-variants.{Refused}
 use Rattle.format.specs.declared.Span.{Span}
@@ -27,6 +27,11 @@ use Rattle.format.specs.declared.TileAnswer.{TileAnswer}
 use Rattle.format.specs.declared.TileAnswer.the-variants as TileIs
 use Rattle.format.specs.declared.Dimension.{Dimension}
 use Rattle.format.specs.declared.DimensionAnswer.{DimensionAnswer}
+use Rattle.format.specs.declared.Attachment.{Attachment}
+use Rattle.format.specs.declared.AttachmentAnswer.{AttachmentAnswer}
+use Rattle.format.specs.declared.AttachmentAnswer.the-variants as AttachmentIs
+use Rattle.tables.specs.Tables.{tilesVerdict, dimensionsVerdict, TableAnswered}
+use Rattle.tables.specs.declared.tiles.Table.{Table}
 use Rattle.listing.specs.Summary.{summaryVerdict, SummaryAnswered}
 use Rattle.listing.specs.declared.Summary.{Summary}
 use Rattle.listing.specs.declared.SummaryAnswer.{SummaryAnswer}
@@ -118,6 +123,14 @@ module _ (bs : List ℕ) where
   unfolding dimensionVerdict lows
   dimension-low n k = checks-then bs _ refl
 
+  pub tiles-low : (x y : ℕ) → numberOf (tilesVerdict (scanOf bs) x y) ≤ 30
+  unfolding tilesVerdict lows
+  tiles-low x y = checks-then bs _ refl
+
+  pub dimensions-low : (x y : ℕ) → numberOf (dimensionsVerdict (scanOf bs) x y) ≤ 30
+  unfolding dimensionsVerdict lows
+  dimensions-low x y = checks-then bs _ refl
+
 -- ---- the verdict v that an answer about w has
 
 module _ {v w : Verdict} where
@@ -127,6 +140,9 @@ module _ {v w : Verdict} where
   pub span-low : {s : Span} {a : SpanAnswer} → SpanAnswered w s a → v ≡ spanVerdict a → numberOf w ≤ 30 → numberOf v ≤ 30
   span-low a e h = rw (e, a .number-is) h
 
+  pub table-low : {f : Verdict} {rows : ℕ} {t : Table} → TableAnswered f w rows t → v ≡ t .verdict → numberOf w ≤ 30 → numberOf v ≤ 30
+  table-low a e h = rw (e, a .verdict-is .number-is) h
+
   pub dimension-in-low : {d : Dimension} {a : DimensionAnswer}
       → DimensionAnswered w d a → v ≡ dimensionVerdictIn a → numberOf w ≤ 30 → numberOf v ≤ 30
   dimension-in-low a e h = rw (e, a .number-is) h
@@ -134,10 +150,14 @@ module _ {v w : Verdict} where
   pub summary-low : {s : Summary} {a : SummaryAnswer} → SummaryAnswered w s a → v ≡ summaryVerdict a → numberOf w ≤ 30 → numberOf v ≤ 30
   summary-low a e h = rw (e, a .number-is) h
 
--- of a tile's answer, which is the refusal m at p
+-- of a tile's or an attachment's answer, which is the refusal m at p
 pub tile-in-low : {w : Verdict} {t : Tile} {a : TileAnswer} {m p : ℕ}
     → TileAnswered w t a → a ≡ TileIs.Refused m p → numberOf w ≤ 30 → m ≤ 30
 tile-in-low a e h = rw (← a .number-is, e) at h
+
+pub attachment-in-low : {w : Verdict} {t : Attachment} {a : AttachmentAnswer} {m p : ℕ}
+    → AttachmentAnswered w t a → a ≡ AttachmentIs.Refused m p → numberOf w ≤ 30 → m ≤ 30
+attachment-in-low a e h = rw (← a .number-is, e) at h
 
 -- ---- what a composer is asked
 

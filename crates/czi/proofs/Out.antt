@@ -10,7 +10,7 @@ use lib.Signed.{mag}
 use mir.Syntax.{w32}
 use mir.Val.{ofZ, toZ}
 use Rattle.format.specs.Checks.{numberOf, placeOf}
-use Rattle.format.specs.Answers.{VerdictAnswered, SpanAnswered, TileAnswered, DimensionAnswered, spanVerdict, spanIn, dimensionVerdictIn, dimensionIn}
+use Rattle.format.specs.Answers.{VerdictAnswered, SpanAnswered, TileAnswered, DimensionAnswered, AttachmentAnswered, spanVerdict, spanIn, dimensionVerdictIn, dimensionIn}
 use Rattle.format.specs.declared.Verdict.{Verdict}
 use Rattle.format.specs.declared.Verdict.the-variants.{Accepted, Refused}
 use Rattle.format.specs.declared.Span.{Span}
@@ -20,6 +20,13 @@ use Rattle.format.specs.declared.TileAnswer.{TileAnswer}
 use Rattle.format.specs.declared.TileAnswer.the-variants as TileIs
 use Rattle.format.specs.declared.Dimension.{Dimension}
 use Rattle.format.specs.declared.DimensionAnswer.{DimensionAnswer}
+use Rattle.format.specs.Attachments.{attachmentGuid, attachmentType, attachmentName}
+use Rattle.format.specs.declared.Attachment.{Attachment}
+use Rattle.format.specs.declared.AttachmentAnswer.{AttachmentAnswer}
+use Rattle.format.specs.declared.AttachmentAnswer.the-variants as AttachmentIs
+use Rattle.tables.specs.Numbers.{tileNumbers, tileStarts}
+use Rattle.tables.specs.Tables.{TableAnswered}
+use Rattle.tables.specs.declared.tiles.Table.{Table}
 use Rattle.text.specs.Text.{textOf, Clean}
 use Rattle.text.specs.declared.Text.{Text}
 use Rattle.text.proofs.Texts.{text-length}
@@ -33,8 +40,8 @@ use Rattle.question.specs.declared.Composed.{Composed}
 use Rattle.compose.specs.Steps.{asked}
 use Rattle.entries.proofs.ReadBack.{read-back}
 use Rattle.czi.specs.Plane.{requestOf, PlaneOut}
-use Rattle.czi.specs.Numbers.{tileNumbers, tileStarts, boxNumbers}
-use Rattle.czi.specs.Out.{VerdictOut, SpanOut, TileOut, DimensionOut, SummaryOut, TextOut}
+use Rattle.czi.specs.Numbers.{boxNumbers}
+use Rattle.czi.specs.Out.{VerdictOut, SpanOut, TileOut, TableOut, DimensionOut, AttachmentOut, SummaryOut, TextOut}
 use Rattle.czi.specs.declared.figures.BoxNumbers.{BoxNumbers}
 
 -- ---- answers about w, of which v is the verdict, written as its number and place
@@ -46,6 +53,9 @@ module _ {v w : Verdict} {number place : ℕ} (n : number ≡ numberOf v) (p : p
   pub span-out : {s x : Span} {a : SpanAnswer} → SpanAnswered w s a → v ≡ spanVerdict a → x ≡ spanIn a
       → SpanOut w s number place (x .start) (x .length)
   span-out a e f = record { number-is = cc; place-is = cc; start-is = cc; length-is = cc }
+
+  pub table-out : {file : Verdict} {rows : ℕ} {t : Table} → TableAnswered file w rows t → v ≡ t .verdict → TableOut file w rows number place (t .rows)
+  table-out a e = record { number-is = cc (a .verdict-is .number-is); place-is = cc (a .verdict-is .place-is); count-is = a .rows-are }
 
   pub dimension-out : {d x : Dimension} {a : DimensionAnswer} {start : ℤ}
       → DimensionAnswered w d a → v ≡ dimensionVerdictIn a → x ≡ dimensionIn a → start ≡ x .start
@@ -86,6 +96,24 @@ module _ {t : Tile} {a : TileAnswer} {numbers : List ℕ} {starts : List ℤ} wh
       → TileOut w t numbers₀ starts₀ 0 0 numbers starts
   tile-found-out {w = Accepted} h e n s = record { number-is = refl; place-is = refl; numbers-are = cc; starts-are = cc }
   tile-found-out {w = Refused k l} h e n s = let z : _≡_ {A = ℕ} 0 1 = cc in absurd (omega arith)
+
+-- ---- an attachment record, in the same way; e is where its entry stands
+
+module _ {bs : List ℕ} {t : Attachment} {a : AttachmentAnswer} {guid type name : List ℕ} where
+  pub attachment-refused-out : {w : Verdict} {m q number place : ℕ}
+      → AttachmentAnswered w t a → a ≡ AttachmentIs.Refused m q → number ≡ numberOf (Refused m q) → place ≡ placeOf (Refused m q)
+      → AttachmentOut w bs t guid type name guid type name number place 0 0
+  attachment-refused-out {w = Accepted} h e n p = let z : _≡_ {A = ℕ} 0 1 = cc in absurd (omega arith)
+  attachment-refused-out {w = Refused k l} h e n p =
+      record { number-is = cc; place-is = cc; guid-is = refl; type-is = refl; name-is = refl; start-is = refl; length-is = refl }
+
+  pub attachment-found-out : {w : Verdict} {u : Attachment} {guid₀ type₀ name₀ : List ℕ}
+      → AttachmentAnswered w t a → a ≡ AttachmentIs.Found u
+      → guid ≡ attachmentGuid bs (u .place) → type ≡ attachmentType bs (u .place) → name ≡ attachmentName bs (u .place)
+      → AttachmentOut w bs t guid₀ type₀ name₀ guid type name 0 0 (u .«data» .start) (u .«data» .length)
+  attachment-found-out {w = Accepted} h e g y n =
+      record { number-is = refl; place-is = refl; guid-is = cc; type-is = cc; name-is = cc; start-is = cc; length-is = cc }
+  attachment-found-out {w = Refused k l} h e g y n = let z : _≡_ {A = ℕ} 0 1 = cc in absurd (omega arith)
 
 -- ---- the text
 

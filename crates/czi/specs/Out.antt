@@ -14,7 +14,7 @@ use Rattle.format.specs.declared.Dimension.{Dimension}
 use Rattle.format.specs.declared.Attachment.{Attachment}
 use Rattle.listing.specs.Summary.{noSummary}
 use Rattle.listing.specs.declared.Summary.{Summary}
-use Rattle.records.specs.Numbers.{tileNumbers, tileStarts}
+use Rattle.tables.specs.Numbers.{tileNumbers, tileStarts}
 use Rattle.czi.specs.Numbers.{boxNumbers}
 
 -- the interface's number: it rises with every changed signature or array length

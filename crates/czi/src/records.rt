@@ -6,8 +6,8 @@ use format::Dimension;
 use format::DimensionAnswer;
 use format::TileAnswer;
 use format::Verdict;
-use records::numbers::tile_numbers;
-use records::numbers::tile_starts;
+use tables::numbers::tile_numbers;
+use tables::numbers::tile_starts;
 ghost use mathlib.Core.Path.{_≡_};
 ghost use Rattle.format.specs.Scan.{scanOf};
 ghost use lib.ListN.{length};
@@ -15,7 +15,7 @@ ghost use Rattle.format.specs.Directory.{tileCount};
 ghost use Rattle.format.specs.Rules.{verdict, tileVerdict, attachmentVerdict};
 ghost use Rattle.format.specs.Records.{dimensionVerdict, tileRecord, dimensionRecord, attachmentRecord};
 ghost use Rattle.format.specs.Answers.{dimensionVerdictIn, dimensionIn};
-ghost use Rattle.records.specs.Tables.{tilesVerdict, TileArrays, dimensionTotal, dimensionsVerdict, DimensionArrays};
+ghost use Rattle.tables.specs.Tables.{tilesVerdict, TileArrays, dimensionTotal, dimensionsVerdict, DimensionArrays};
 ghost use Rattle.czi.specs.Out.{TileOut, TableOut, DimensionOut, AttachmentOut};
 
 // ---- tiles
@@ -59,7 +59,7 @@ pub extern "C" fn czi_tiles(
     ensures { λ r. ⌜ TableOut (verdict (scanOf (now (file .entry)))) (tilesVerdict (scanOf (now (file .entry))) (length (now (numbers .entry))) (length (now (starts .entry)))) (tileCount (now (file .entry))) r (now (place .exit)) (now (tiles .exit)) ⌝ }
     ensures { λ _. ⌜ TileArrays (scanOf (now (file .entry))) (now (numbers .entry)) (now (starts .entry)) (now (numbers .exit)) (now (starts .exit)) ⌝ }
 {
-    let t = records::tiles::tiles(file, numbers, starts);
+    let t = tables::tiles::tiles(file, numbers, starts);
     let v = t.verdict;
     *place = place_of(v);
     *tiles = t.rows;
@@ -139,7 +139,7 @@ pub extern "C" fn czi_dimensions(
     ensures { λ r. ⌜ TableOut (verdict (scanOf (now (file .entry)))) (dimensionsVerdict (scanOf (now (file .entry))) (length (now (numbers .entry))) (length (now (starts .entry)))) (dimensionTotal (scanOf (now (file .entry)))) r (now (place .exit)) (now (dimensions .exit)) ⌝ }
     ensures { λ _. ⌜ DimensionArrays (scanOf (now (file .entry))) (now (numbers .entry)) (now (starts .entry)) (now (numbers .exit)) (now (starts .exit)) ⌝ }
 {
-    let t = records::dimensions::dimensions(file, numbers, starts);
+    let t = tables::dimensions::dimensions(file, numbers, starts);
     let v = t.verdict;
     *place = place_of(v);
     *dimensions = t.rows;

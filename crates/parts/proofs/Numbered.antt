@@ -163,8 +163,11 @@ module _ (bs : List ℕ) (n : ℕ) (h : attachmentVerdict (scanOf bs) n ≡ Acce
     pub annex-small : attachmentEntry t n < 2 ^ 64
     annex-small = let a = attachment-there (scanOf bs) n h in rw i (omega (arith, a .small, a .attached .entry))
 
-    pub annex-in : (e : ℕ) → e ≡ attachmentEntry t n → e + 128 ≤ length bs
-    annex-in e j = rw (j, i) (attachment-there (scanOf bs) n h .attached .entry)
+    pub annex-is : (e : ℕ) → e ≡ attachmentEntry t n → e ≡ annexEntry bs n
+    annex-is e j = j ∙ rw i
+
+  pub annex-in : (e : ℕ) → e ≡ annexEntry bs n → e + 128 ≤ length bs
+  annex-in e j = rw j (attachment-there (scanOf bs) n h .attached .entry)
 
   -- of the attachment at q
   pub data-in : (q : ℕ) → q ≡ annexPosition bs n → q + 288 + attachmentDataSize bs q ≤ length bs

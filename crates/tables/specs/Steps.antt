@@ -1,0 +1,40 @@
+-- What the steps of filling rest on and promise: one tile's row, one dimension's, the rows of one tile's dimensions.
+use Prim.Native.Nat.{ℕ, _+_, _*_, _≤_, _<_}
+use mathlib.Core.Path.{_≡_}
+use mathlib.Core.List.{List}
+use lib.ListN.{length}
+use lib.IntN.{ℤ, pos}
+use Rattle.format.specs.Scan.{scanOf}
+use Rattle.format.specs.Entry.{dimensionCount}
+use Rattle.format.specs.Directory.{tileCount, entryPlace}
+use Rattle.format.specs.Rules.{verdict}
+use Rattle.format.specs.Records.{tileRecord, dimensionRecord}
+use Rattle.format.specs.declared.Verdict.the-variants.{Accepted}
+use Rattle.tables.specs.Numbers.{tileNumbers, tileStarts, dimensionNumbers, dimensionStarts}
+use Rattle.tables.specs.Rows.{Stretch, Rows}
+
+-- the entry of tile k stands at e of an accepted file
+pub record TileAt (bs : List ℕ) (k e : ℕ) : Type 0 where
+  pub accepted : verdict (scanOf bs) ≡ Accepted
+  pub below : k < tileCount bs
+  pub place : e ≡ entryPlace bs k
+
+-- arrays of these lengths have room for rows of w and v numbers below row n
+pub record RowRoom (w v n : ℕ) (numbers : List ℕ) (starts : List ℤ) : Type 0 where
+  pub numbers-fit : w * n ≤ length numbers
+  pub starts-fit : v * n ≤ length starts
+
+-- the record of tile k is put
+pub record TilePut (bs : List ℕ) (k : ℕ) (numbers₀ : List ℕ) (starts₀ : List ℤ) (numbers : List ℕ) (starts : List ℤ) : Type 0 where
+  pub numbers-are : Stretch 0 (22 * k) 22 (tileNumbers (tileRecord (scanOf bs) k)) numbers₀ numbers
+  pub starts-are : Stretch (pos 0) (3 * k) 3 (tileStarts (tileRecord (scanOf bs) k)) starts₀ starts
+
+-- the record of dimension j of tile k is put in row r
+pub record DimensionPut (bs : List ℕ) (k j r : ℕ) (numbers₀ : List ℕ) (starts₀ : List ℤ) (numbers : List ℕ) (starts : List ℤ) : Type 0 where
+  pub numbers-are : Stretch 0 (5 * r) 5 (dimensionNumbers k (dimensionRecord (scanOf bs) k j)) numbers₀ numbers
+  pub starts-are : Stretch (pos 0) (1 * r) 1 (dimensionStarts (dimensionRecord (scanOf bs) k j)) starts₀ starts
+
+-- the records of the first c dimensions of tile k are put in the rows from r on
+pub record DimensionsPut (bs : List ℕ) (k c r : ℕ) (numbers₀ : List ℕ) (starts₀ : List ℤ) (numbers : List ℕ) (starts : List ℤ) : Type 0 where
+  pub numbers-are : Rows 0 5 r c (λ j. dimensionNumbers k (dimensionRecord (scanOf bs) k j)) numbers₀ numbers
+  pub starts-are : Rows (pos 0) 1 r c (λ j. dimensionStarts (dimensionRecord (scanOf bs) k j)) starts₀ starts
