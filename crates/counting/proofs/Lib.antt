@@ -1,0 +1,3 @@
+-- Laws of marking and counting the tiles that a question selects.
+pub mod Marking
+pub mod Answering
