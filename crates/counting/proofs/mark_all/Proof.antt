@@ -5,7 +5,8 @@ use borrow.Author.Needs.{needs}
 use Rattle.judge.proofs.AcceptedFile.{accepted-long, accepted-entries}
 use Rattle.judge.proofs.EntryLoop.{at-fixed}
 use Rattle.counting.specs.Chosen.{seek}
-use Rattle.counting.proofs.Marking.{Marking, marking-start, marking-all, marking-listed, marking-size, marking-room, selected-most, meeting-most, marking-next, marking-end}
+use Rattle.counting.proofs.Marking.{Marking, marking-start, marking-all, marking-listed, marking-size}
+use Rattle.counting.proofs.Marking.{marking-room, selected-most, meeting-most, marking-next, marking-end}
 use Rattle.counting.proofs.mark_all.Statement.{statement}
 use Rattle.counting.proofs.mark_all.Tie as tie
 

@@ -4,5 +4,11 @@ use Rattle.counting.proofs.Marking.{one-yes, one-no}
 use Rattle.counting.proofs.one_from.Statement.{statement}
 use Rattle.counting.proofs.one_from.Tie as tie
 
+returns : tie.Need-returns
+returns c = (search one-yes, omega arith)
+
+returns-2 : tie.Need-returns-2
+returns-2 c = (search one-no, omega arith)
+
 pub one-from-spec : {M : Type 1} → statement M
-one-from-spec = tie.close (tie.spec (λ c. (search one-yes, omega arith)) (λ c. (search one-no, omega arith)))
+one-from-spec = tie.close (tie.spec returns returns-2)

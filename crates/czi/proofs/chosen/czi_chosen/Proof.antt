@@ -4,6 +4,9 @@ use borrow.Author.Needs.{needs}
 use Rattle.czi.proofs.chosen.czi_chosen.Statement.{statement}
 use Rattle.czi.proofs.chosen.czi_chosen.Tie as tie
 
+returns : tie.Need-returns
+returns c = search chosen-out
+
 pub czi-chosen-spec : {M : Type 1} → statement M
 czi-chosen-spec =
     tie.close
@@ -13,4 +16,4 @@ czi-chosen-spec =
     (λ c κs. search needs)
     (λ c κs. search chosen-low)
     (λ c. search needs)
-    (λ c. search chosen-out))
+    returns)
