@@ -1,2 +1,3 @@
--- Paper 01's worked cases.
+-- Worked cases: paper 01's, and those of the tiles that meet a window.
 pub mod Cases
+pub mod Counts

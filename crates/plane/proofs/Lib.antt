@@ -10,3 +10,4 @@ pub mod TurnLaws
 pub mod Demand3
 pub mod SortedRuns
 pub mod Skip
+pub mod Partitions

@@ -5,4 +5,5 @@ pub mod Paint
 pub mod Turns
 pub mod Demand2
 pub mod Cuts
+pub mod Partition
 pub mod Demand3

@@ -1,0 +1,188 @@
+-- The mark of a tile from the tests that the code takes, and the loop that marks and counts. Assumes nothing.
+use Prim.Native.Nat.{ℕ, suc, _+_, _^_, _≤_, _<_}
+use mathlib.Core.Path.{_≡_, refl, sym, ap, _∙_}
+use mathlib.Core.List.{List}
+use mathlib.Core.Bool.{Bool, true, false, cond, not, _&&_, and-false}
+use native.Mathlib.Nat.{zero-add}
+use native.Mathlib.Omega.{arith}
+use native.Mathlib.Numerals.{add-one}
+use lib.ListN.{length, getD, set}
+use lib.Dec.{leb, ltb}
+use lib.IntN.{ℤ}
+use lib.Signed.{mag}
+use mir.Syntax.{w32}
+use mir.Val.{ofZ, toZ}
+use borrow.Author.Tests.{lt-ltb, le-ltb, le-leb, lt-leb, not-true, not-false}
+use Rattle.format.specs.Scan.{scanOf}
+use Rattle.format.specs.Bytes.{shifted}
+use Rattle.format.specs.Entry.{nextEntry}
+use Rattle.format.specs.Directory.{tileCount, entryPlace}
+use Rattle.format.specs.Records.{tileEntry}
+use Rattle.format.specs.Rules.{verdict}
+use Rattle.format.specs.declared.Verdict.the-variants.{Accepted}
+use Rattle.entries.proofs.ReadBack.{read-back}
+use Rattle.judge.proofs.AcceptedFile.{tiled}
+use Rattle.judge.proofs.EntryLoop.{AtEntry, at-start, at-next}
+use Rattle.plane.specs.Sums.{one, sum, count, tab}
+use Rattle.plane.specs.declared.Rect.{Rect}
+use Rattle.plane.proofs.Tests.{ltb-next}
+use Rattle.plane.proofs.SumLaws.{count-le, tab-ext, tab-set, tab-getD, length-tab}
+use Rattle.selection.specs.Select.{selects}
+use Rattle.subblocks.specs.Judged.{Listed}
+use Rattle.tiles.specs.FileTile.{rectangle, meets}
+use Rattle.tiles.proofs.Rectangles.{read-edges}
+use Rattle.counting.specs.Chosen.{Sought, seek, windowOf, shares, picksAt, meetsAt, markAt, countsBelow, marksBelow, Marked}
+
+-- ---- a window without a pixel shares none
+
+module _ (a w : Rect) where
+  pub no-column : w .width ≡ 0 → false ≡ shares a w
+  unfolding shares
+  no-column h = rw h
+
+  pub no-row : w .height ≡ 0 → false ≡ shares a w
+  unfolding shares
+  no-row h = rw (h, and-false)
+
+  pub some-pixel : (w .width ≡ 0 → ⊥) → (w .height ≡ 0 → ⊥) → (m : Bool) → m ≡ meets a w → m ≡ shares a w
+  unfolding shares
+  some-pixel h i m e = rw (lt-ltb 0 (w .width) (omega arith), lt-ltb 0 (w .height) (omega arith)) e
+
+-- ---- the mark of the tile of the entry at e: p says whether it is selected, m whether its rectangle a shares a pixel with the window
+
+module _ (bs : List ℕ) (starts : List ℤ) (anyScene : Bool) (w : Rect) (e : ℕ) (p : Bool) (i : p ≡ selects bs starts anyScene e) where
+  pub not-selected : not p ≡ true → 0 ≡ markAt (seek bs starts anyScene w) e
+  unfolding markAt meetsAt picksAt
+  not-selected h = rw (← i, not-true p h)
+
+  module _ (h : not p ≡ false) (a : Rect) (f : a ≡ rectangle bs e) (m : Bool) (j : m ≡ shares a w) where
+    pub apart : not m ≡ true → 1 ≡ markAt (seek bs starts anyScene w) e
+    unfolding markAt meetsAt picksAt
+    apart k = rw (← i, not-false p h, ← f, ← j, not-true m k)
+
+    pub sharing : not m ≡ false → 2 ≡ markAt (seek bs starts anyScene w) e
+    unfolding markAt meetsAt picksAt
+    sharing k = rw (← i, not-false p h, ← f, ← j, not-false m k)
+
+-- the edges that the code adds fit
+pub edges : (bs : List ℕ) (e : ℕ) (a w : Rect) → Listed bs e → a ≡ rectangle bs e → (w .left + w .width < 2 ^ 64) × (w .top + w .height < 2 ^ 64)
+    → (a .left + a .width < 2 ^ 64) × (a .top + a .height < 2 ^ 64) × (w .left + w .width < 2 ^ 64) × (w .top + w .height < 2 ^ 64)
+edges bs e a w l h i = let b = read-edges bs e a l h in (omega (arith, b .right), omega (arith, b .bottom), i .0, i .1)
+
+-- the window as the code makes it: left and top are handed on as their bits
+module _ (left top : ℤ) (width height : ℕ) (l : mag left < 2 ^ 31) (t : mag top < 2 ^ 31) where
+  pub window-is : (x y : ℕ) → x ≡ shifted (toZ w32 (ofZ w32 left)) → y ≡ shifted (toZ w32 (ofZ w32 top))
+      → _≡_ {A = Rect} (record { left = x; top = y; width = width; height = height }) (windowOf left top width height)
+  window-is x y f g = rw (f, g, read-back left l, read-back top t)
+
+  pub window-back : {w : Rect} → w ≡ windowOf (toZ w32 (ofZ w32 left)) (toZ w32 (ofZ w32 top)) width height → w ≡ windowOf left top width height
+  window-back e = e ∙ rw (read-back left l, read-back top t)
+
+-- ---- what a mark counts for
+
+pub one-yes : (n m : ℕ) → n ≤ m → 1 ≡ one (leb n m)
+one-yes n m h = rw (le-leb n m h)
+
+pub one-no : (n m : ℕ) → m < n → 0 ≡ one (leb n m)
+one-no n m h = rw (lt-leb n m h)
+
+marked-selected : (q : Sought) (e : ℕ) → one (leb 1 (markAt q e)) ≡ one (picksAt q e)
+unfolding markAt meetsAt
+marked-selected q e = go (picksAt q e) (shares (rectangle (q .scan .file) e) (q .window))
+  where
+    go : (p s : Bool) → one (leb 1 (cond (p && s) 2 (cond p 1 0))) ≡ one p
+    go true true = refl
+    go true false = refl
+    go false s = refl
+
+marked-meeting : (q : Sought) (e : ℕ) → one (leb 2 (markAt q e)) ≡ one (meetsAt q e)
+unfolding markAt
+marked-meeting q e = go (meetsAt q e) (picksAt q e)
+  where
+    go : (m p : Bool) → one (leb 2 (cond m 2 (cond p 1 0))) ≡ one m
+    go true p = refl
+    go false true = refl
+    go false false = refl
+
+-- ---- the loop over the entries of an accepted file: those below k are marked and counted, and the next is at e
+
+-- there are no more than entries
+few-selected : (q : Sought) (k : ℕ) → countsBelow q k .selected ≤ k
+unfolding countsBelow
+few-selected q k = count-le k (λ i. picksAt q (tileEntry (q .scan) i))
+
+few-meeting : (q : Sought) (k : ℕ) → countsBelow q k .meeting ≤ k
+unfolding countsBelow
+few-meeting q k = count-le k (λ i. meetsAt q (tileEntry (q .scan) i))
+
+pub record Marking (q : Sought) (before after : List ℕ) (n e selected meeting k : ℕ) : Type 0 where
+  pub whole : n ≡ tileCount (q .scan .file)
+  pub room : n ≤ length before
+  pub at : AtEntry (q .scan .file) n e k
+  pub marks-are : after ≡ marksBelow q before k
+  pub selected-is : selected ≡ countsBelow q k .selected
+  pub meeting-is : meeting ≡ countsBelow q k .meeting
+
+-- of the file bs, the window w and the marks as they were
+module _ (bs : List ℕ) (starts : List ℤ) (anyScene : Bool) (w : Rect) (before : List ℕ) where
+  abbrev q : Sought
+  q = seek bs starts anyScene w
+
+  pub marking-start : (n e : ℕ) → tileCount bs ≤ length before → n ≡ tileCount bs → e ≡ entryPlace bs 0 → Marking q before before n e 0 0 0
+  unfolding marksBelow countsBelow sum
+  marking-start n e r f g = record {
+    whole = f;
+    room = omega arith;
+    at = at-start bs n e g;
+    marks-are = tab-getD before ∙ tab-ext (length before) _ _ (λ k h. rw (le-ltb k 0 (omega arith)));
+    selected-is = refl;
+    meeting-is = refl;
+  }
+
+  module _ (t : List ℕ) (n e selected meeting k : ℕ) (i : Marking q before t n e selected meeting k) where
+    pub marking-all : n ≤ tileCount bs
+    marking-all = omega (arith, i .whole)
+
+    pub marking-listed : verdict (scanOf bs) ≡ Accepted → k < n → Listed bs e
+    marking-listed a h = rw (i .at .place) (tiled (scanOf bs) a .tile k (omega (arith, i .whole)) .filled .agreed .placed .listed)
+
+    pub marking-size : length t ≡ length before
+    unfolding marksBelow
+    marking-size = rw (i .marks-are) (length-tab (length before) _)
+
+    pub marking-room : k < n → k < length t
+    marking-room h = omega (arith, marking-size, i .room)
+
+    -- the counts fit: v is what the mark adds
+    module _ (v : ℕ) (f : v ≤ 1) (h : k < n) where
+      pub selected-most : selected + v ≤ n
+      selected-most = omega (arith, f, i .selected-is, few-selected q k)
+
+      pub meeting-most : meeting + v ≤ n
+      meeting-most = omega (arith, f, i .meeting-is, few-meeting q k)
+
+    pub marking-next : (v x y p : ℕ) → k < n → v ≡ markAt q e → x ≡ one (leb 1 v) → y ≡ one (leb 2 v) → p ≡ nextEntry bs e
+        → Marking q before (set t k v) n p (selected + x) (meeting + y) (k + 1)
+    unfolding marksBelow countsBelow sum
+    marking-next v x y p h f fx fy g = record {
+      whole = i .whole;
+      room = i .room;
+      at = at-next bs n e k (i .at) p h g;
+      marks-are = rw (i .marks-are) (tab-set (length before) _ _ k v (omega (arith, i .room)) here others);
+      selected-is = rw (add-one, i .selected-is, fx, f, marked-selected q e, i .at .place);
+      meeting-is = rw (add-one, i .meeting-is, fy, f, marked-meeting q e, i .at .place);
+    }
+      where
+        here : v ≡ cond (ltb k (k + 1)) (markAt q (entryPlace bs k)) (getD before k 0)
+        here = rw (lt-ltb k (k + 1) (omega arith), ← i .at .place) f
+
+        others : (j : ℕ) → j < length before → (j ≡ k → ⊥)
+            → cond (ltb j k) (markAt q (entryPlace bs j)) (getD before j 0) ≡ cond (ltb j (k + 1)) (markAt q (entryPlace bs j)) (getD before j 0)
+        others j l d = rw (ltb-next j k d)
+
+    pub marking-end : n ≤ k → Marked q before t (record { selected = selected; meeting = meeting })
+    unfolding countsBelow
+    marking-end h = let f : k ≡ tileCount bs = omega (arith, i .whole, i .at .count) in record {
+      counts-are = rw (i .selected-is, i .meeting-is, f);
+      marks-are = rw (← f) (i .marks-are);
+    }
