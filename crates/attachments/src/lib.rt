@@ -1,4 +1,5 @@
-// Judges the metadata segment, the attachment directory and the attachments. An entry lies in the slice d, an attachment in the slice s.
+// Judges the metadata segment, the attachment directory and the attachments, and reads their fields. Where a function takes both, an entry lies in
+// the slice d and its attachment in the slice s.
 use format::Verdict;
 ghost use mathlib.Core.Path.{_≡_};
 ghost use Prim.Native.Nat.{_+_, _<_, _≤_, _^_};
@@ -134,7 +135,7 @@ fn attachment_part(s: &[u8], e: u64) -> u64
 }
 
 // The content GUID of the entry at e, as its 16 bytes stand.
-pub fn content_guid(s: &[u8], e: u64) -> [u8; 16]
+pub fn attachment_guid(s: &[u8], e: u64) -> [u8; 16]
     requires { ⌜ e + 128 ≤ length (now s) ⌝ }
     ensures { λ r. ⌜ r ≡ attachmentGuid (now (s .entry)) e ⌝ }
 {
@@ -144,7 +145,7 @@ pub fn content_guid(s: &[u8], e: u64) -> [u8; 16]
 }
 
 // Its file type: 8 bytes.
-pub fn file_type(s: &[u8], e: u64) -> [u8; 8]
+pub fn attachment_type(s: &[u8], e: u64) -> [u8; 8]
     requires { ⌜ e + 128 ≤ length (now s) ⌝ }
     ensures { λ r. ⌜ r ≡ attachmentType (now (s .entry)) e ⌝ }
 {

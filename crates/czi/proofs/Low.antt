@@ -140,7 +140,7 @@ module _ {v w : Verdict} where
   pub span-low : {s : Span} {a : SpanAnswer} → SpanAnswered w s a → v ≡ spanVerdict a → numberOf w ≤ 30 → numberOf v ≤ 30
   span-low a e h = rw (e, a .number-is) h
 
-  pub table-low : {f : Verdict} {rows : ℕ} {t : Table} → TableAnswered f w rows t → v ≡ t .verdict → numberOf w ≤ 30 → numberOf v ≤ 30
+  pub table-low : {rows : ℕ} {t : Table} → TableAnswered w rows t → v ≡ t .verdict → numberOf w ≤ 30 → numberOf v ≤ 30
   table-low a e h = rw (e, a .verdict-is .number-is) h
 
   pub dimension-in-low : {d : Dimension} {a : DimensionAnswer}

@@ -54,7 +54,7 @@ module _ {v w : Verdict} {number place : ℕ} (n : number ≡ numberOf v) (p : p
       → SpanOut w s number place (x .start) (x .length)
   span-out a e f = record { number-is = cc; place-is = cc; start-is = cc; length-is = cc }
 
-  pub table-out : {file : Verdict} {rows : ℕ} {t : Table} → TableAnswered file w rows t → v ≡ t .verdict → TableOut file w rows number place (t .rows)
+  pub table-out : {rows : ℕ} {t : Table} → TableAnswered w rows t → v ≡ t .verdict → TableOut w rows number place (t .rows)
   table-out a e = record { number-is = cc (a .verdict-is .number-is); place-is = cc (a .verdict-is .place-is); count-is = a .rows-are }
 
   pub dimension-out : {d x : Dimension} {a : DimensionAnswer} {start : ℤ}

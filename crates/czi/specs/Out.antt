@@ -40,11 +40,11 @@ pub record TileOut (v : Verdict) (t : Tile) (numbers₀ : List ℕ) (starts₀ :
   pub numbers-are : numbers ≡ ifAccepted v (tileNumbers t) numbers₀
   pub starts-are : starts ≡ ifAccepted v (tileStarts t) starts₀
 
--- all records of a kind, of which there are `rows` in an accepted file, by the verdict v; `file` is the file's own
-pub record TableOut (file v : Verdict) (rows number place count : ℕ) : Type 0 where
+-- all records of a kind, `rows` of them, by the verdict v: how many were filled, 0 where it refuses
+pub record TableOut (v : Verdict) (rows number place count : ℕ) : Type 0 where
   pub number-is : number ≡ numberOf v
   pub place-is : place ≡ placeOf v
-  pub count-is : count ≡ ifAccepted file rows 0
+  pub count-is : count ≡ ifAccepted v rows 0
 
 -- a dimension record, all zero where v refuses
 pub record DimensionOut (v : Verdict) (d : Dimension) (number place letter : ℕ) (start : ℤ) (size bits stored : ℕ) : Type 0 where

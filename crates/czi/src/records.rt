@@ -12,7 +12,7 @@ ghost use mathlib.Core.Path.{_≡_};
 ghost use Rattle.format.specs.Scan.{scanOf};
 ghost use lib.ListN.{length};
 ghost use Rattle.format.specs.Directory.{tileCount};
-ghost use Rattle.format.specs.Rules.{verdict, tileVerdict, attachmentVerdict};
+ghost use Rattle.format.specs.Rules.{tileVerdict, attachmentVerdict};
 ghost use Rattle.format.specs.Records.{dimensionVerdict, tileRecord, dimensionRecord, attachmentRecord};
 ghost use Rattle.format.specs.Answers.{dimensionVerdictIn, dimensionIn};
 ghost use Rattle.tables.specs.Tables.{tilesVerdict, TileArrays, dimensionTotal, dimensionsVerdict, DimensionArrays};
@@ -47,7 +47,7 @@ pub extern "C" fn czi_tile(
     }
 }
 
-// Every tile record, a row a tile in each array. A refused call leaves both as they were; tiles is how many an accepted file has.
+// Every tile record, a row a tile in each array; tiles is how many. A refused call leaves both arrays as they were.
 #[no_mangle]
 pub extern "C" fn czi_tiles(
     file: &[u8],
@@ -56,7 +56,7 @@ pub extern "C" fn czi_tiles(
     place: &mut u64,
     tiles: &mut u64,
 ) -> u32
-    ensures { λ r. ⌜ TableOut (verdict (scanOf (now (file .entry)))) (tilesVerdict (scanOf (now (file .entry))) (length (now (numbers .entry))) (length (now (starts .entry)))) (tileCount (now (file .entry))) r (now (place .exit)) (now (tiles .exit)) ⌝ }
+    ensures { λ r. ⌜ TableOut (tilesVerdict (scanOf (now (file .entry))) (length (now (numbers .entry))) (length (now (starts .entry)))) (tileCount (now (file .entry))) r (now (place .exit)) (now (tiles .exit)) ⌝ }
     ensures { λ _. ⌜ TileArrays (scanOf (now (file .entry))) (now (numbers .entry)) (now (starts .entry)) (now (numbers .exit)) (now (starts .exit)) ⌝ }
 {
     let t = tables::tiles::tiles(file, numbers, starts);
@@ -126,8 +126,7 @@ pub extern "C" fn czi_dimension(
     number_of(v)
 }
 
-// Every dimension record, a row a dimension in each array, tile by tile. A refused call leaves both as they were; dimensions is how many the
-// tiles of an accepted file have.
+// Every dimension record, a row a dimension in each array, tile by tile; dimensions is how many. A refused call leaves both arrays as they were.
 #[no_mangle]
 pub extern "C" fn czi_dimensions(
     file: &[u8],
@@ -136,7 +135,7 @@ pub extern "C" fn czi_dimensions(
     place: &mut u64,
     dimensions: &mut u64,
 ) -> u32
-    ensures { λ r. ⌜ TableOut (verdict (scanOf (now (file .entry)))) (dimensionsVerdict (scanOf (now (file .entry))) (length (now (numbers .entry))) (length (now (starts .entry)))) (dimensionTotal (scanOf (now (file .entry)))) r (now (place .exit)) (now (dimensions .exit)) ⌝ }
+    ensures { λ r. ⌜ TableOut (dimensionsVerdict (scanOf (now (file .entry))) (length (now (numbers .entry))) (length (now (starts .entry)))) (dimensionTotal (scanOf (now (file .entry)))) r (now (place .exit)) (now (dimensions .exit)) ⌝ }
     ensures { λ _. ⌜ DimensionArrays (scanOf (now (file .entry))) (now (numbers .entry)) (now (starts .entry)) (now (numbers .exit)) (now (starts .exit)) ⌝ }
 {
     let t = tables::dimensions::dimensions(file, numbers, starts);
@@ -176,8 +175,8 @@ pub extern "C" fn czi_attachment(
             let e = t.place;
             let data = t.data;
             *place = 0;
-            *guid = attachments::content_guid(file, e);
-            *file_type = attachments::file_type(file, e);
+            *guid = attachments::attachment_guid(file, e);
+            *file_type = attachments::attachment_type(file, e);
             *name = attachments::attachment_name(file, e);
             *start = data.start;
             *length = data.length;

@@ -90,7 +90,7 @@ pub enum DimensionAnswer {
     Refused { number: u64, place: u64 },
 }
 
-// The attachment record: where its entry and itself stand in the file, and the stretch of its data.
+// The attachment record: where its entry and itself stand in the file, and the stretch of its data. GUID, file type and name stand in the entry.
 pub struct Attachment {
     pub place: u64,
     pub position: u64,

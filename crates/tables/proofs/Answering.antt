@@ -35,29 +35,28 @@ module _ {w : Verdict} {full : Type 0} {numbers₀ : List ℕ} {starts₀ : List
 -- ---- the answer: of the file's verdict, of the arrays' length where that accepts
 
 module _ (sc : Scan) (short : Bool) (v : Verdict) (a : VerdictAnswered (verdict sc) v) (rows : ℕ) where
+  answered-refused : {m p : ℕ} → Refused m p ≡ tableVerdict sc short → TableAnswered (tableVerdict sc short) rows (record { verdict = Refused m p; rows = 0 })
+  answered-refused e = record { verdict-is = verdict-answered e; rows-are = rw (← e) }
+
   module _ (m p : ℕ) (h : v ≡ Refused m p) where
     refused-is : Refused m p ≡ tableVerdict sc short
     unfolding verdict
     refused-is = then-stop v (checks sc) (row 22 0 short ∷ []) m p (a .answer-is) h
 
-    pub file-refused : TableAnswered (verdict sc) (tableVerdict sc short) rows (record { verdict = Refused m p; rows = 0 })
-    file-refused = record { verdict-is = verdict-answered refused-is; rows-are = rw (← a .answer-is, h) }
+    pub file-refused : TableAnswered (tableVerdict sc short) rows (record { verdict = Refused m p; rows = 0 })
+    file-refused = answered-refused refused-is
 
     pub file-kept : {full : Type 0} {numbers₀ : List ℕ} {starts₀ : List ℤ} → Arrays (tableVerdict sc short) full numbers₀ starts₀ numbers₀ starts₀
     file-kept = kept (sym refused-is)
 
   module _ (h : v ≡ Accepted) where
-    count-is : (n : ℕ) → n ≡ rows → n ≡ ifAccepted (verdict sc) rows 0
-    count-is n e = rw (← a .answer-is, h) e
-
     module _ (b : Bool) (g : b ≡ short) where
       short-is : b ≡ true → Refused 22 0 ≡ tableVerdict sc short
       unfolding verdict
       short-is t = then-next v (Refused 22 0) (checks sc) (row 22 0 short ∷ []) (a .answer-is) h (rw (← g, t))
 
-      pub too-short : (n : ℕ) → n ≡ rows → b ≡ true
-          → TableAnswered (verdict sc) (tableVerdict sc short) rows (record { verdict = Refused 22 0; rows = n })
-      too-short n e t = record { verdict-is = verdict-answered (short-is t); rows-are = count-is n e }
+      pub too-short : b ≡ true → TableAnswered (tableVerdict sc short) rows (record { verdict = Refused 22 0; rows = 0 })
+      too-short t = answered-refused (short-is t)
 
       pub short-kept : {full : Type 0} {numbers₀ : List ℕ} {starts₀ : List ℤ} → b ≡ true
           → Arrays (tableVerdict sc short) full numbers₀ starts₀ numbers₀ starts₀
@@ -68,8 +67,8 @@ module _ (sc : Scan) (short : Bool) (v : Verdict) (a : VerdictAnswered (verdict 
       enough-is t = then-next v Accepted (checks sc) (row 22 0 short ∷ []) (a .answer-is) h (rw (← g, t))
 
       pub enough : (n : ℕ) → n ≡ rows → b ≡ false
-          → TableAnswered (verdict sc) (tableVerdict sc short) rows (record { verdict = Accepted; rows = n })
-      enough n e t = record { verdict-is = verdict-answered (enough-is t); rows-are = count-is n e }
+          → TableAnswered (tableVerdict sc short) rows (record { verdict = Accepted; rows = n })
+      enough n e t = record { verdict-is = verdict-answered (enough-is t); rows-are = rw (← enough-is t) e }
 
       pub enough-filled : {full : Type 0} {numbers₀ numbers : List ℕ} {starts₀ starts : List ℤ} → b ≡ false → full
           → Arrays (tableVerdict sc short) full numbers₀ starts₀ numbers starts

@@ -23,7 +23,7 @@ use Rattle.judge.proofs.AcceptedFile.{tiled}
 use Rattle.judge.proofs.EntryLoop.{AtEntry, at-start, at-next, at-end}
 use Rattle.tables.specs.Numbers.{tileNumbers, tileStarts, dimensionNumbers, dimensionStarts}
 use Rattle.tables.specs.Rows.{Stretch, Rows}
-use Rattle.tables.specs.Tables.{short, dimensionsBelow, dimensionTotal, TileRows, Groups, DimensionRows}
+use Rattle.tables.specs.Tables.{short, dimensionsBelow, dimensionTotal, TileTable, Groups, DimensionTable}
 use Rattle.tables.specs.Steps.{TileAt, RowRoom, TilePut, DimensionPut, DimensionsPut}
 use Rattle.tables.proofs.RowLaws.{rows-none, rows-more, groups-none, groups-more, below-next, below-rises}
 
@@ -120,7 +120,7 @@ module _ (bs : List ℕ) (n : ℕ) (numbers₀ : List ℕ) (starts₀ : List ℤ
       starts-are = rows-more (pos 0) 3 0 _ starts₀ k starts starts′ (w .starts-are) (rw (zero-add k) (p .starts-are));
     }
 
-    pub tiles-end : n ≡ tileCount bs → n ≤ k → TileRows (scanOf bs) numbers₀ starts₀ numbers starts
+    pub tiles-end : n ≡ tileCount bs → n ≤ k → TileTable (scanOf bs) numbers₀ starts₀ numbers starts
     tiles-end f h =
         let m : k ≡ tileCount bs = omega (arith, w .at .count) in
         record { numbers-are = rw m at (w .numbers-are); starts-are = rw m at (w .starts-are) }
@@ -162,7 +162,7 @@ pub record DimensionsFilling (bs : List ℕ) (n e r k : ℕ) (numbers₀ : List 
   pub at : AtEntry bs n e k
   pub row-is : r ≡ dimensionsBelow bs k
   pub few : r ≤ 65536
-  pub rows : DimensionRows (scanOf bs) k numbers₀ starts₀ numbers starts
+  pub rows : DimensionTable (scanOf bs) k numbers₀ starts₀ numbers starts
 
 module _ (bs : List ℕ) (n : ℕ) (numbers₀ : List ℕ) (starts₀ : List ℤ) where
   pub groups-start : (e : ℕ) → e ≡ entryPlace bs 0 → DimensionsFilling bs n e 0 0 numbers₀ starts₀ numbers₀ starts₀
@@ -212,7 +212,7 @@ module _ (bs : List ℕ) (n : ℕ) (numbers₀ : List ℕ) (starts₀ : List ℤ
           }
 
   pub groups-end : (e r k : ℕ) (numbers : List ℕ) (starts : List ℤ) → DimensionsFilling bs n e r k numbers₀ starts₀ numbers starts → n ≤ k
-      → DimensionRows (scanOf bs) n numbers₀ starts₀ numbers starts
+      → DimensionTable (scanOf bs) n numbers₀ starts₀ numbers starts
   groups-end e r k numbers starts w h = let m : k ≡ n = omega (arith, w .at .count) in rw m at (w .rows)
 
 -- ---- the loop that counts them
@@ -267,8 +267,8 @@ module _ (bs : List ℕ) (n : ℕ) (f : n ≡ tileCount bs) where
   tiles-enough b numbers starts h t = short-no b n 22 3 numbers starts h t
 
   -- and r dimensions
-  pub total-rows : {numbers₀ numbers : List ℕ} {starts₀ starts : List ℤ} → DimensionRows (scanOf bs) n numbers₀ starts₀ numbers starts
-      → DimensionRows (scanOf bs) (tileCount bs) numbers₀ starts₀ numbers starts
+  pub total-rows : {numbers₀ numbers : List ℕ} {starts₀ starts : List ℤ} → DimensionTable (scanOf bs) n numbers₀ starts₀ numbers starts
+      → DimensionTable (scanOf bs) (tileCount bs) numbers₀ starts₀ numbers starts
   total-rows d = rw f at d
 
   module _ (r : ℕ) (g : (r ≡ dimensionsBelow bs n) × (r ≤ 65536)) where

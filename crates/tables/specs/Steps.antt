@@ -1,11 +1,10 @@
 -- What the steps of filling rest on and promise: one tile's row, one dimension's, the rows of one tile's dimensions.
-use Prim.Native.Nat.{ℕ, _+_, _*_, _≤_, _<_}
+use Prim.Native.Nat.{ℕ, _*_, _≤_, _<_}
 use mathlib.Core.Path.{_≡_}
 use mathlib.Core.List.{List}
 use lib.ListN.{length}
 use lib.IntN.{ℤ, pos}
 use Rattle.format.specs.Scan.{scanOf}
-use Rattle.format.specs.Entry.{dimensionCount}
 use Rattle.format.specs.Directory.{tileCount, entryPlace}
 use Rattle.format.specs.Rules.{verdict}
 use Rattle.format.specs.Records.{tileRecord, dimensionRecord}
@@ -19,7 +18,7 @@ pub record TileAt (bs : List ℕ) (k e : ℕ) : Type 0 where
   pub below : k < tileCount bs
   pub place : e ≡ entryPlace bs k
 
--- arrays of these lengths have room for rows of w and v numbers below row n
+-- these arrays have room for n rows of w numbers and v signed ones
 pub record RowRoom (w v n : ℕ) (numbers : List ℕ) (starts : List ℤ) : Type 0 where
   pub numbers-fit : w * n ≤ length numbers
   pub starts-fit : v * n ≤ length starts

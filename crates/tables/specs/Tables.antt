@@ -34,23 +34,23 @@ pub record Arrays (v : Verdict) (full : Type 0) (numbers₀ : List ℕ) (starts�
   pub refused : (n p : ℕ) → v ≡ Refused n p → (numbers ≡ numbers₀) × (starts ≡ starts₀)
   pub accepted : v ≡ Accepted → full
 
--- the answer r: v, and how many rows there are, also where the arrays are too short; none of a file that is refused
-pub record TableAnswered (file v : Verdict) (rows : ℕ) (r : Table) : Type 0 where
+-- the answer r: v, and how many rows were filled, 0 where v refuses
+pub record TableAnswered (v : Verdict) (rows : ℕ) (r : Table) : Type 0 where
   pub verdict-is : VerdictAnswered v (r .verdict)
-  pub rows-are : r .rows ≡ ifAccepted file rows 0
+  pub rows-are : r .rows ≡ ifAccepted v rows 0
 
 -- ---- tiles: 22 numbers and 3 signed ones a tile, in directory order
 
 unfoldable pub tilesVerdict : Scan → ℕ → ℕ → Verdict
 tilesVerdict sc numbers starts = tableVerdict sc (short (tileCount (sc .file)) 22 3 numbers starts)
 
-pub record TileRows (sc : Scan) (numbers₀ : List ℕ) (starts₀ : List ℤ) (numbers : List ℕ) (starts : List ℤ) : Type 0 where
+pub record TileTable (sc : Scan) (numbers₀ : List ℕ) (starts₀ : List ℤ) (numbers : List ℕ) (starts : List ℤ) : Type 0 where
   pub numbers-are : Rows 0 22 0 (tileCount (sc .file)) (λ k. tileNumbers (tileRecord sc k)) numbers₀ numbers
   pub starts-are : Rows (pos 0) 3 0 (tileCount (sc .file)) (λ k. tileStarts (tileRecord sc k)) starts₀ starts
 
 abbrev pub TileArrays : Scan → List ℕ → List ℤ → List ℕ → List ℤ → Type 0
 TileArrays sc numbers₀ starts₀ numbers starts =
-    Arrays (tilesVerdict sc (length numbers₀) (length starts₀)) (TileRows sc numbers₀ starts₀ numbers starts) numbers₀ starts₀ numbers starts
+    Arrays (tilesVerdict sc (length numbers₀) (length starts₀)) (TileTable sc numbers₀ starts₀ numbers starts) numbers₀ starts₀ numbers starts
 
 -- ---- dimensions: 5 numbers and a signed one a dimension, tile by tile
 
@@ -65,18 +65,18 @@ dimensionTotal sc = dimensionsBelow (sc .file) (tileCount (sc .file))
 unfoldable pub dimensionsVerdict : Scan → ℕ → ℕ → Verdict
 dimensionsVerdict sc numbers starts = tableVerdict sc (short (dimensionTotal sc) 5 1 numbers starts)
 
--- the rows of the dimensions of the tiles below n, `row k j` that of dimension j of tile k
-pub record Groups {A : Type 0} (none : A) (w : ℕ) (bs : List ℕ) (n : ℕ) (row : ℕ → ℕ → List A) (before after : List A) : Type 0 where
+-- the rows of the dimensions of the tiles below n, `numbered k j` that of dimension j of tile k
+pub record Groups {A : Type 0} (none : A) (w : ℕ) (bs : List ℕ) (n : ℕ) (numbered : ℕ → ℕ → List A) (before after : List A) : Type 0 where
   pub size-is : length after ≡ length before
   pub row-is : (k j i : ℕ) → k < n → j < dimensionCount bs (entryPlace bs k) → i < w
-      → getD after (w * (dimensionsBelow bs k + j) + i) none ≡ getD (row k j) i none
+      → getD after (w * (dimensionsBelow bs k + j) + i) none ≡ getD (numbered k j) i none
   pub past : (x : ℕ) → w * dimensionsBelow bs n ≤ x → getD after x none ≡ getD before x none
 
-pub record DimensionRows (sc : Scan) (n : ℕ) (numbers₀ : List ℕ) (starts₀ : List ℤ) (numbers : List ℕ) (starts : List ℤ) : Type 0 where
+pub record DimensionTable (sc : Scan) (n : ℕ) (numbers₀ : List ℕ) (starts₀ : List ℤ) (numbers : List ℕ) (starts : List ℤ) : Type 0 where
   pub numbers-are : Groups 0 5 (sc .file) n (λ k j. dimensionNumbers k (dimensionRecord sc k j)) numbers₀ numbers
   pub starts-are : Groups (pos 0) 1 (sc .file) n (λ k j. dimensionStarts (dimensionRecord sc k j)) starts₀ starts
 
 abbrev pub DimensionArrays : Scan → List ℕ → List ℤ → List ℕ → List ℤ → Type 0
 DimensionArrays sc numbers₀ starts₀ numbers starts =
-    Arrays (dimensionsVerdict sc (length numbers₀) (length starts₀)) (DimensionRows sc (tileCount (sc .file)) numbers₀ starts₀ numbers starts)
+    Arrays (dimensionsVerdict sc (length numbers₀) (length starts₀)) (DimensionTable sc (tileCount (sc .file)) numbers₀ starts₀ numbers starts)
     numbers₀ starts₀ numbers starts

@@ -14,7 +14,7 @@ ghost use Rattle.format.specs.Rules.{verdict};
 ghost use Rattle.format.specs.Entry.{dimensionCount};
 ghost use Rattle.format.specs.Directory.{tileCount};
 ghost use Rattle.format.specs.declared.Verdict.the-variants.{Accepted};
-ghost use Rattle.tables.specs.Tables.{dimensionsBelow, dimensionTotal, dimensionsVerdict, DimensionRows, DimensionArrays, TableAnswered};
+ghost use Rattle.tables.specs.Tables.{dimensionsBelow, dimensionTotal, dimensionsVerdict, DimensionTable, DimensionArrays, TableAnswered};
 ghost use Rattle.tables.specs.Steps.{TileAt, RowRoom, DimensionPut, DimensionsPut};
 
 // How many dimensions the n tiles of an accepted file have.
@@ -71,7 +71,7 @@ fn put_dimensions_of(
 fn put_dimensions(s: &[u8], n: u64, numbers: &mut [u64], starts: &mut [i32])
     requires { ⌜ (verdict (scanOf (now s)) ≡ Accepted) × (n ≡ tileCount (now s)) ⌝ }
     requires { ⌜ RowRoom 5 1 (dimensionsBelow (now s) n) (now numbers) (now starts) ⌝ }
-    ensures { λ _. ⌜ DimensionRows (scanOf (now (s .entry))) n (now (numbers .entry)) (now (starts .entry)) (now (numbers .exit)) (now (starts .exit)) ⌝ }
+    ensures { λ _. ⌜ DimensionTable (scanOf (now (s .entry))) n (now (numbers .entry)) (now (starts .entry)) (now (numbers .exit)) (now (starts .exit)) ⌝ }
 {
     let mut e = directory::first_entry(s);
     let mut r: u64 = 0;
@@ -89,7 +89,7 @@ fn put_dimensions(s: &[u8], n: u64, numbers: &mut [u64], starts: &mut [i32])
 // Every dimension record: 5 numbers and a signed one a dimension, tile by tile in directory order. Refused, 22 where an array is too short, it
 // changes neither.
 pub fn dimensions(s: &[u8], numbers: &mut [u64], starts: &mut [i32]) -> Table
-    ensures { λ r. ⌜ TableAnswered (verdict (scanOf (now (s .entry)))) (dimensionsVerdict (scanOf (now (s .entry))) (length (now (numbers .entry))) (length (now (starts .entry)))) (dimensionTotal (scanOf (now (s .entry)))) r ⌝ }
+    ensures { λ r. ⌜ TableAnswered (dimensionsVerdict (scanOf (now (s .entry))) (length (now (numbers .entry))) (length (now (starts .entry)))) (dimensionTotal (scanOf (now (s .entry)))) r ⌝ }
     ensures { λ _. ⌜ DimensionArrays (scanOf (now (s .entry))) (now (numbers .entry)) (now (starts .entry)) (now (numbers .exit)) (now (starts .exit)) ⌝ }
 {
     let v = judge::judge(s);
@@ -107,7 +107,7 @@ pub fn dimensions(s: &[u8], numbers: &mut [u64], starts: &mut [i32]) -> Table
                         number: 22,
                         place: 0,
                     },
-                    rows: total,
+                    rows: 0,
                 };
             }
             put_dimensions(s, n, numbers, starts);

@@ -16,10 +16,10 @@ ghost use Rattle.format.specs.declared.Verdict.the-variants.{Accepted};
 ghost use Rattle.format.specs.Records.{tileRecord};
 ghost use Rattle.tables.specs.Numbers.{tileNumbers, tileStarts};
 ghost use Rattle.tables.specs.Rows.{Stretch};
-ghost use Rattle.tables.specs.Tables.{short, tilesVerdict, TileRows, TileArrays, TableAnswered};
+ghost use Rattle.tables.specs.Tables.{short, tilesVerdict, TileTable, TileArrays, TableAnswered};
 ghost use Rattle.tables.specs.Steps.{TileAt, RowRoom, TilePut};
 
-// What became of filling lent arrays: the verdict, and how many rows the file has for them, also where they are too short.
+// What became of filling lent arrays: the verdict, and how many rows were filled, 0 where it refuses.
 pub struct Table {
     pub verdict: Verdict,
     pub rows: u64,
@@ -80,7 +80,7 @@ fn put_tile(s: &[u8], k: u64, e: u64, numbers: &mut [u64], starts: &mut [i32])
 fn put_tiles(s: &[u8], n: u64, numbers: &mut [u64], starts: &mut [i32])
     requires { ⌜ (verdict (scanOf (now s)) ≡ Accepted) × (n ≡ tileCount (now s)) ⌝ }
     requires { ⌜ RowRoom 22 3 n (now numbers) (now starts) ⌝ }
-    ensures { λ _. ⌜ TileRows (scanOf (now (s .entry))) (now (numbers .entry)) (now (starts .entry)) (now (numbers .exit)) (now (starts .exit)) ⌝ }
+    ensures { λ _. ⌜ TileTable (scanOf (now (s .entry))) (now (numbers .entry)) (now (starts .entry)) (now (numbers .exit)) (now (starts .exit)) ⌝ }
 {
     let mut e = directory::first_entry(s);
     let mut k: u64 = 0;
@@ -93,7 +93,7 @@ fn put_tiles(s: &[u8], n: u64, numbers: &mut [u64], starts: &mut [i32])
 
 // Every tile record: 22 numbers and 3 signed ones a tile, in directory order. Refused, 22 where an array is too short, it changes neither.
 pub fn tiles(s: &[u8], numbers: &mut [u64], starts: &mut [i32]) -> Table
-    ensures { λ r. ⌜ TableAnswered (verdict (scanOf (now (s .entry)))) (tilesVerdict (scanOf (now (s .entry))) (length (now (numbers .entry))) (length (now (starts .entry)))) (tileCount (now (s .entry))) r ⌝ }
+    ensures { λ r. ⌜ TableAnswered (tilesVerdict (scanOf (now (s .entry))) (length (now (numbers .entry))) (length (now (starts .entry)))) (tileCount (now (s .entry))) r ⌝ }
     ensures { λ _. ⌜ TileArrays (scanOf (now (s .entry))) (now (numbers .entry)) (now (starts .entry)) (now (numbers .exit)) (now (starts .exit)) ⌝ }
 {
     let v = judge::judge(s);
@@ -110,7 +110,7 @@ pub fn tiles(s: &[u8], numbers: &mut [u64], starts: &mut [i32]) -> Table
                         number: 22,
                         place: 0,
                     },
-                    rows: n,
+                    rows: 0,
                 };
             }
             put_tiles(s, n, numbers, starts);

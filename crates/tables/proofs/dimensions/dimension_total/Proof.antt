@@ -13,6 +13,9 @@ Inv-loop s n e₀ total₀ k₀ e total k = Counting s n e total k
 abbrev μ-loop : tie.MeasureT-loop
 μ-loop s n e₀ total₀ k₀ e total k = n - k
 
+loop-holds : tie.Need-loop-holds Inv-loop μ-loop
+loop-holds c = search counting-start
+
 add-total : tie.Need-add-total Inv-loop μ-loop
 add-total c =
     let a = c .before .before .before .before .before in
@@ -28,7 +31,7 @@ dimension-total-spec =
     Inv-loop
     μ-loop
     (λ c κs. search (accepted-long, accepted-entries))
-    (λ c. search counting-start)
+    loop-holds
     (λ c κs. search (at-fixed, counting-all))
     add-total
     (λ c κs. search (at-fixed, counting-all))

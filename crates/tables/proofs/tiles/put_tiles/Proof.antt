@@ -13,6 +13,9 @@ Inv-loop s n numbers₀ starts₀ e₀ k₀ numbers starts e k = TilesFilling s 
 abbrev μ-loop : tie.MeasureT-loop
 μ-loop s n numbers₀ starts₀ e₀ k₀ numbers starts e k = n - k
 
+loop-holds : tie.Need-loop-holds Inv-loop μ-loop
+loop-holds c = search tiles-start
+
 loop-again : tie.Need-loop-again Inv-loop μ-loop
 loop-again c = search tiles-next
 
@@ -26,7 +29,7 @@ put-tiles-spec =
     Inv-loop
     μ-loop
     (λ c κs. search (accepted-long, accepted-entries))
-    (λ c. search tiles-start)
+    loop-holds
     (λ c κs. search (tiles-at, tiles-room))
     (λ c κs. search (at-fixed, tiles-all))
     (λ c. omega arith)
