@@ -57,7 +57,7 @@ fn mark_at(s: &[u8], e: u64, starts: &[i32], any_scene: bool, w: Rect) -> u8
     2
 }
 
-// 1 for a mark of at least n, 0 for another.
+// 1 for a mark of at least n, 0 for a lesser one.
 fn one_from(n: u8, mark: u8) -> u64
     ensures { λ r. ⌜ (r ≡ one (leb n mark)) × (r ≤ 1) ⌝ }
 {
