@@ -1,11 +1,10 @@
 -- Small cases of the tiles that a question selects and that meet a window: each answer is the right one.
 use Prim.Native.Nat.{ℕ}
 use mathlib.Core.Path.{_≡_, refl}
-use mathlib.Core.List.{List, [], _∷_, _++_}
-use mathlib.Core.Bool.{Bool, true, false}
-use lib.ListN.{length, replicate, take}
+use mathlib.Core.List.{List, [], _∷_}
+use mathlib.Core.Bool.{false}
+use lib.ListN.{length}
 use lib.IntN.{ℤ, pos, negsuc}
-use Rattle.format.specs.Scan.{scanOf}
 use Rattle.format.specs.Bytes.{anyOf, anyBelow, allBelow, leastBelow, u32At, u64At, biased, sameAt, sameRange}
 use Rattle.format.specs.Names.{nameFile, nameDirectory, nameSubBlock, nameMetadata, nameAttachment, nameAttachmentDirectory, nameDeleted, markTile, containerMarker}
 use Rattle.format.specs.Checks.{rowsBelow, ifAccepted}

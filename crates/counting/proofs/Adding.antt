@@ -1,6 +1,6 @@
 -- The covered counts of a box's parts, each by a call of its own, add up. Assumes nothing.
 use Prim.Native.Nat.{ℕ, _+_}
-use mathlib.Core.Path.{_≡_, refl, sym, _∙_}
+use mathlib.Core.Path.{_≡_, refl, sym, ap₂, _∙_}
 use mathlib.Core.Logic.{⊎-elim}
 use mathlib.Core.List.{List, [], _∷_}
 use Rattle.plane.specs.Tiles.{covered, within}
@@ -29,7 +29,7 @@ part-count a p c =
 sum-is : (a : Asked) (ps : List Part) → AllCounted a ps → coveredSum a ps ≡ withinAll (windows a ps) (covered (selected a))
 unfolding withinAll
 sum-is a [] c = refl
-sum-is a (p ∷ ps) c = rw (part-count a p (c .0), sum-is a ps (c .1))
+sum-is a (p ∷ ps) c = ap₂ (λ (n m : ℕ). n + m) (part-count a p (c .0)) (sum-is a ps (c .1))
 
 pub all-parts-add : AllPartsAdd
 all-parts-add a ps = record {

@@ -1,14 +1,12 @@
 -- How the answer comes about: by the verdict on the file bs, which was answered as v, and by how many marks are lent. Assumes nothing.
 use Prim.Native.Nat.{ℕ, _≤_, _<_}
-use mathlib.Core.Path.{_≡_, refl, sym, ap, _∙_}
+use mathlib.Core.Path.{_≡_, sym, ap, _∙_}
 use mathlib.Core.List.{List}
 use mathlib.Core.Bool.{Bool}
 use lib.ListN.{length}
-use lib.Dec.{ltb}
 use lib.IntN.{ℤ}
 use borrow.Author.Tests.{lt-ltb, le-ltb}
 use Rattle.format.specs.Scan.{scanOf}
-use Rattle.format.specs.Checks.{first}
 use Rattle.format.specs.Directory.{tileCount}
 use Rattle.format.specs.Rules.{checks, verdict}
 use Rattle.format.specs.Answers.{VerdictAnswered}
@@ -16,7 +14,7 @@ use Rattle.format.specs.declared.Verdict.{Verdict}
 use Rattle.format.specs.declared.Verdict.the-variants.{Accepted, Refused}
 use Rattle.format.proofs.Firsts.{first-pass, first-stop}
 use Rattle.plane.specs.declared.Rect.{Rect}
-use Rattle.counting.specs.Chosen.{Sought, seek, Marked, chosenVerdict, countsOf, ChosenAnswered}
+use Rattle.counting.specs.Chosen.{Sought, seek, Marked, chosenVerdict, ChosenAnswered}
 use Rattle.counting.specs.declared.ChosenCounts.{ChosenCounts}
 use Rattle.counting.specs.declared.ChosenAnswer.the-variants as Ans
 

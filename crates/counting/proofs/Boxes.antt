@@ -1,5 +1,5 @@
 -- The summary's box holds every selected tile of an accepted file, and so every covered pixel. Assumes nothing.
-use Prim.Native.Nat.{ℕ, zero, suc, _+_, _-_, _^_, _≤_, _<_, max}
+use Prim.Native.Nat.{ℕ, zero, suc, _-_, _^_, _≤_, _<_, max}
 use mathlib.Core.Path.{_≡_, refl, sym, _∙_}
 use mathlib.Core.List.{List}
 use mathlib.Core.Bool.{Bool, true, false, cond, not, true≢false}
@@ -10,25 +10,24 @@ use lib.Dec.{ltb}
 use lib.IntN.{pos, _-ℤ_}
 use borrow.Author.Tests.{lt-ltb, ltb-true, ltb-false}
 use Rattle.format.specs.Scan.{scanOf}
-use Rattle.format.specs.Bytes.{anyBelow, allBelow, biased, shifted, signed32}
+use Rattle.format.specs.Bytes.{anyBelow, biased, shifted, signed32}
 use Rattle.format.specs.Entry.{isPyramid, letterPlace}
 use Rattle.format.specs.Directory.{tileCount, entryPlace}
 use Rattle.format.specs.Rules.{verdict}
 use Rattle.format.specs.declared.Verdict.the-variants.{Accepted}
 use Rattle.format.proofs.Below.{any-found}
-use Rattle.plane.specs.Tiles.{covers, covered, within}
+use Rattle.plane.specs.Tiles.{covers, covered}
 use Rattle.plane.specs.Cuts.{Inside}
-use Rattle.plane.specs.declared.Rect.{Rect}
 use Rattle.plane.proofs.Partitions.{covers-inside, inside-covers, within-same}
-use Rattle.selection.specs.Select.{startsThere, selects}
+use Rattle.selection.specs.Select.{selects}
 use Rattle.tiles.specs.FileTile.{rectangle}
 use Rattle.question.specs.Call.{Asked, chosen, selected}
-use Rattle.listing.specs.Summary.{plain, leastOf, greatestOf, nearEdge, farEdge, left, top, right, bottom, unshifted, boundsOf, summaryOf}
+use Rattle.listing.specs.Summary.{plain, greatestOf, nearEdge, farEdge, left, top, right, bottom, unshifted, boundsOf, summaryOf}
 use Rattle.listing.specs.Figures.{cornersBelow}
 use Rattle.listing.specs.declared.Bounds.the-variants.{Box}
 use Rattle.listing.proofs.Boxes.{least-at, corners-held}
 use Rattle.counting.specs.Claims.{boxOf, summaryBox, Holds, AllBoxed}
-use Rattle.counting.proofs.Uses.{CoveredBy, selected-by}
+use Rattle.counting.proofs.Uses.{selected-by}
 
 -- ---- a corner as it is answered, and back
 

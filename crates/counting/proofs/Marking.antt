@@ -1,9 +1,8 @@
 -- The mark of a tile from the tests that the code takes, and the loop that marks and counts. Assumes nothing.
-use Prim.Native.Nat.{ℕ, suc, _+_, _^_, _≤_, _<_}
-use mathlib.Core.Path.{_≡_, refl, sym, ap, _∙_}
+use Prim.Native.Nat.{ℕ, _+_, _^_, _≤_, _<_}
+use mathlib.Core.Path.{_≡_, refl, _∙_}
 use mathlib.Core.List.{List}
 use mathlib.Core.Bool.{Bool, true, false, cond, not, _&&_, and-false}
-use native.Mathlib.Nat.{zero-add}
 use native.Mathlib.Omega.{arith}
 use native.Mathlib.Numerals.{add-one}
 use lib.ListN.{length, getD, set}
@@ -23,7 +22,7 @@ use Rattle.format.specs.declared.Verdict.the-variants.{Accepted}
 use Rattle.entries.proofs.ReadBack.{read-back}
 use Rattle.judge.proofs.AcceptedFile.{tiled}
 use Rattle.judge.proofs.EntryLoop.{AtEntry, at-start, at-next}
-use Rattle.plane.specs.Sums.{one, sum, count, tab}
+use Rattle.plane.specs.Sums.{one, sum, count}
 use Rattle.plane.specs.declared.Rect.{Rect}
 use Rattle.plane.proofs.Tests.{ltb-next}
 use Rattle.plane.proofs.SumLaws.{count-le, tab-ext, tab-set, tab-getD, length-tab}
@@ -86,20 +85,20 @@ one-yes n m h = rw (le-leb n m h)
 pub one-no : (n m : ℕ) → m < n → 0 ≡ one (leb n m)
 one-no n m h = rw (lt-leb n m h)
 
-marked-selected : (q : Sought) (e : ℕ) → one (leb 1 (markAt q e)) ≡ one (picksAt q e)
+pub marked-selected : (q : Sought) (e : ℕ) → leb 1 (markAt q e) ≡ picksAt q e
 unfolding markAt meetsAt
 marked-selected q e = go (picksAt q e) (shares (rectangle (q .scan .file) e) (q .window))
   where
-    go : (p s : Bool) → one (leb 1 (cond (p && s) 2 (cond p 1 0))) ≡ one p
+    go : (p s : Bool) → leb 1 (cond (p && s) 2 (cond p 1 0)) ≡ p
     go true true = refl
     go true false = refl
     go false s = refl
 
-marked-meeting : (q : Sought) (e : ℕ) → one (leb 2 (markAt q e)) ≡ one (meetsAt q e)
+marked-meeting : (q : Sought) (e : ℕ) → leb 2 (markAt q e) ≡ meetsAt q e
 unfolding markAt
 marked-meeting q e = go (meetsAt q e) (picksAt q e)
   where
-    go : (m p : Bool) → one (leb 2 (cond m 2 (cond p 1 0))) ≡ one m
+    go : (m p : Bool) → leb 2 (cond m 2 (cond p 1 0)) ≡ m
     go true p = refl
     go false true = refl
     go false false = refl

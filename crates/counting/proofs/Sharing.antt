@@ -1,7 +1,7 @@
 -- Sharing a pixel is right: a rectangle and a window share one exactly when there is one that both cover. Assumes nothing.
 use Prim.Native.Nat.{ℕ, _+_, _≤_, _<_, max}
 use mathlib.Core.Path.{_≡_, sym}
-use mathlib.Core.Bool.{Bool, true, _&&_}
+use mathlib.Core.Bool.{true, _&&_}
 use native.Mathlib.Omega.{arith}
 use lib.Dec.{ltb}
 use borrow.Author.Tests.{lt-ltb, ltb-true}
@@ -12,13 +12,12 @@ use Rattle.format.specs.Rules.{verdict}
 use Rattle.format.specs.declared.Verdict.the-variants.{Accepted}
 use Rattle.format.proofs.Below.{and-both}
 use Rattle.judge.proofs.AcceptedFile.{tiled}
-use Rattle.plane.specs.Cuts.{Inside}
 use Rattle.plane.specs.declared.Rect.{Rect}
 use Rattle.plane.proofs.Partitions.{covers-inside, inside-covers}
 use Rattle.tiles.specs.FileTile.{rectangle, meets}
 use Rattle.tiles.proofs.Rectangles.{Bounded, rectangle-edges, meeting}
-use Rattle.counting.specs.Chosen.{Sought, shares, picksAt, meetsAt}
-use Rattle.counting.specs.Claims.{Shared, Sharing, TileSharing}
+use Rattle.counting.specs.Chosen.{shares, picksAt, meetsAt}
+use Rattle.counting.specs.Claims.{Shared, Sharing, Meeting, TileSharing}
 
 module _ (a w : Rect) where
   -- the pixel in the greater left and the greater top
@@ -59,6 +58,10 @@ module _ (a w : Rect) where
       (omega (arith, i .left, j .right))
       (omega (arith, i .bottom, j .top))
       (omega (arith, i .top, j .bottom))))
+
+pub meeting-is : Meeting
+unfolding shares
+meeting-is a w h i = rw (lt-ltb 0 (w .width) h, lt-ltb 0 (w .height) i)
 
 pub sharing : Sharing
 sharing a w h i = (shares-shared a w h i, shared-shares a w)

@@ -1,8 +1,8 @@
 -- What is counted is what the composers use: as many tiles as they select, and no covered pixel where none of them meets the window. Assumes nothing.
 use Prim.Native.Nat.{ℕ, zero, suc, _+_, _<_}
-use mathlib.Core.Path.{_≡_, refl, sym, ap, _∙_}
+use mathlib.Core.Path.{_≡_, refl, sym, _∙_}
 use mathlib.Core.List.{List, _∷_}
-use mathlib.Core.Bool.{Bool, true, false, cond, not, _&&_, _||_, true≢false}
+use mathlib.Core.Bool.{Bool, true, false, cond, _||_, true≢false}
 use mathlib.Core.Logic.{⊎-elim}
 use native.Mathlib.Nat.{eq-or-lt-of-le, le-of-suc-le-suc}
 use native.Mathlib.Omega.{arith}
@@ -13,7 +13,7 @@ use Rattle.format.specs.Records.{tileEntry}
 use Rattle.format.proofs.Below.{and-both}
 use Rattle.format.specs.declared.Verdict.the-variants.{Accepted}
 use Rattle.plane.specs.Sums.{one, sum, count}
-use Rattle.plane.specs.Tiles.{Tile, covers, covered, within}
+use Rattle.plane.specs.Tiles.{covers, covered, within}
 use Rattle.plane.specs.Turns.{Kind}
 use Rattle.plane.specs.declared.Rect.{Rect}
 use Rattle.plane.proofs.Tests.{by-bool}
@@ -21,7 +21,7 @@ use Rattle.plane.proofs.Partitions.{within-none}
 use Rattle.tiles.specs.FileTile.{rectangle, entryTile, fileTile, tilesBelow}
 use Rattle.question.specs.Call.{Asked, choiceOf, chosen, callVerdict, askedWindow, selected, answer, coveredIn}
 use Rattle.question.proofs.Calls.{decide, room, runs, covered-is}
-use Rattle.counting.specs.Chosen.{Sought, picksAt, meetsAt, countsBelow, countsOf}
+use Rattle.counting.specs.Chosen.{picksAt, meetsAt, countsBelow, countsOf}
 use Rattle.counting.specs.Claims.{soughtIn, AllUsed}
 use Rattle.counting.proofs.Sharing.{shared-shares}
 

@@ -2,7 +2,7 @@
 use Prim.Native.Nat.{ℕ}
 use mathlib.Core.Path.{_≡_}
 use mathlib.Core.List.{List, [], _∷_, _++_}
-use mathlib.Core.Bool.{Bool, false, cond, _&&_}
+use mathlib.Core.Bool.{Bool, cond, _&&_}
 use lib.ListN.{length, getD}
 use lib.Dec.{ltb}
 use lib.IntN.{ℤ}
@@ -61,7 +61,7 @@ markAt q e = cond (meetsAt q e) 2 (cond (picksAt q e) 1 0)
 
 -- ---- all of them, by the number of the entry
 
--- how many tiles are selected, and how many share a pixel with the window besides
+-- how many of those below n are selected, and how many of the selected ones share a pixel with the window
 unfoldable pub countsBelow : Sought → ℕ → ChosenCounts
 countsBelow q n =
     record { selected = count n (λ k. picksAt q (tileEntry (q .scan) k)); meeting = count n (λ k. meetsAt q (tileEntry (q .scan) k)) }
@@ -76,6 +76,7 @@ marksBelow q before n = tab (length before) (λ k. cond (ltb k n) (markAt q (til
 abbrev pub marksOf : Sought → List ℕ → List ℕ
 marksOf q before = marksBelow q before (tileCount (q .scan .file))
 
+-- what marking and counting leaves and answers
 pub record Marked (q : Sought) (before after : List ℕ) (r : ChosenCounts) : Type 0 where
   pub counts-are : r ≡ countsOf q
   pub marks-are : after ≡ marksOf q before

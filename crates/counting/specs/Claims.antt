@@ -1,25 +1,42 @@
--- What a count of covered pixels rests on: sharing a pixel, the composers' own selection, and the summary's box.
+-- What a count of covered pixels rests on: the marks, sharing a pixel, the composers' own selection, and the summary's box.
 use Prim.Native.Nat.{ℕ, _-_, _≤_, _<_}
 use mathlib.Core.Path.{_≡_}
 use mathlib.Core.Logic.{_↔_}
 use mathlib.Core.List.{List}
 use mathlib.Core.Bool.{true}
-use lib.ListN.{length}
+use lib.ListN.{length, getD}
+use lib.Dec.{eqb, ltb}
 use Rattle.format.specs.Scan.{Scan}
 use Rattle.format.specs.Bytes.{shifted}
 use Rattle.format.specs.Directory.{tileCount}
 use Rattle.format.specs.Records.{tileEntry}
 use Rattle.format.specs.Rules.{verdict}
 use Rattle.format.specs.declared.Verdict.the-variants.{Accepted}
+use Rattle.plane.specs.Sums.{count}
 use Rattle.plane.specs.Tiles.{covers, covered, within}
 use Rattle.plane.specs.Turns.{Kind}
 use Rattle.plane.specs.declared.Rect.{Rect}
-use Rattle.tiles.specs.FileTile.{rectangle}
+use Rattle.tiles.specs.FileTile.{rectangle, meets}
 use Rattle.question.specs.Call.{Asked, chosen, askedWindow, selected, answer, coveredIn}
 use Rattle.listing.specs.Summary.{left, top, right, bottom, unshifted, summaryOf}
 use Rattle.listing.specs.declared.Bounds.{Bounds}
 use Rattle.listing.specs.declared.Bounds.the-variants.{Nothing, Box}
-use Rattle.counting.specs.Chosen.{Sought, shares, picksAt, meetsAt, countsOf}
+use Rattle.counting.specs.Chosen.{Sought, shares, picksAt, meetsAt, markAt, countsOf, marksOf}
+
+-- ---- the marks
+
+-- of what is asked and the marks that are lent, at least as many as there are tiles
+pub record Marks (q : Sought) (before : List ℕ) : Type 0 where
+  -- as many as before; each tile's own, and past them what was there
+  pub size-is : length (marksOf q before) ≡ length before
+  pub each : (k : ℕ) → k < tileCount (q .scan .file) → getD (marksOf q before) k 0 ≡ markAt q (tileEntry (q .scan) k)
+  pub rest : (k : ℕ) → tileCount (q .scan .file) ≤ k → getD (marksOf q before) k 0 ≡ getD before k 0
+  -- so many are 1 or 2, and so many are 2
+  pub selected-are : countsOf q .selected ≡ count (tileCount (q .scan .file)) (λ k. ltb 0 (getD (marksOf q before) k 0))
+  pub meeting-are : countsOf q .meeting ≡ count (tileCount (q .scan .file)) (λ k. eqb (getD (marksOf q before) k 0) 2)
+
+abbrev pub AllMarks : Type 0
+AllMarks = (q : Sought) (before : List ℕ) → tileCount (q .scan .file) ≤ length before → Marks q before
 
 -- ---- sharing a pixel
 
@@ -33,6 +50,10 @@ pub record Shared (a w : Rect) : Type 0 where
 -- a rectangle with a pixel and a window, which may have none, share a pixel exactly when there is one that both cover
 abbrev pub Sharing : Type 0
 Sharing = (a w : Rect) → 1 ≤ a .width → 1 ≤ a .height → (shares a w ≡ true) ↔ Shared a w
+
+-- in a window with a pixel it is what the composers ask
+abbrev pub Meeting : Type 0
+Meeting = (a w : Rect) → 1 ≤ w .width → 1 ≤ w .height → shares a w ≡ meets a w
 
 -- so tile k of an accepted file is counted as meeting the window exactly when it is selected and covers a pixel of the window
 abbrev pub TileSharing : Type 0

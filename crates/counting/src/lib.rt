@@ -2,7 +2,6 @@
 use format::Verdict;
 use plane::Rect;
 ghost use mathlib.Core.Path.{_≡_};
-ghost use mathlib.Core.Bool.{cond};
 ghost use Prim.Native.Nat.{_+_, _≤_, _<_, _^_};
 ghost use lib.Dec.{leb};
 ghost use lib.ListN.{length};
@@ -58,7 +57,7 @@ fn mark_at(s: &[u8], e: u64, starts: &[i32], any_scene: bool, w: Rect) -> u8
     2
 }
 
-// 1 for a mark of at least n, 0 for another.
+// 1 for a mark of at least n, 0 for a lesser one.
 fn one_from(n: u8, mark: u8) -> u64
     ensures { λ r. ⌜ (r ≡ one (leb n mark)) × (r ≤ 1) ⌝ }
 {

@@ -1,17 +1,18 @@
 -- Counts over windows: by a grid that holds them, by what of them is counted, and over the parts of a box. Assumes nothing.
 use Prim.Native.Nat.{ℕ, _+_, _-_, _≤_, _<_}
 use mathlib.Core.Path.{_≡_, refl, sym, ap, _∙_}
-use mathlib.Core.List.{List, [], _∷_}
+use mathlib.Core.List.{List, [], _∷_, _++_}
 use mathlib.Core.Bool.{Bool, true, false, cond, _&&_, and-false, true≢false}
+use native.Mathlib.Nat.{add-zero}
 use native.Mathlib.Omega.{arith}
 use lib.Dec.{leb, ltb}
 use borrow.Author.Tests.{le-leb, lt-leb, lt-ltb, le-ltb, leb-true, ltb-true}
 use Rattle.plane.specs.Sums.{one, sum}
 use Rattle.plane.specs.Tiles.{covers, within}
-use Rattle.plane.specs.Cuts.{Inside}
-use Rattle.plane.specs.Partition.{coverCount, Partition, withinAll, AddsUp}
+use Rattle.plane.specs.Cuts.{Line, column, row, Cuts, fore, rear, Inside}
+use Rattle.plane.specs.Partition.{coverCount, Partition, Cutting, withinAll, AddsUp}
 use Rattle.plane.specs.declared.Rect.{Rect}
-use Rattle.plane.proofs.Tests.{by-bool}
+use Rattle.plane.proofs.Tests.{by-bool, by-lt}
 use Rattle.plane.proofs.SumLaws.{sum-ext, sum-plus, sum-zero, sum-add}
 
 -- ---- a pixel that a rectangle covers lies inside it
@@ -43,6 +44,53 @@ module _ (w : Rect) (u v : ℕ) where
         le-leb (w .top) v (i .top),
         lt-ltb v (w .top + w .height) (i .bottom),
       )
+
+  not-inside : (Inside w u v → ⊥) → covers w u v ≡ false
+  not-inside n = by-bool (covers w u v) (λ e. absurd (n (covers-inside e))) (λ e. e)
+
+  not-covers : covers w u v ≡ false → Inside w u v → ⊥
+  not-covers e i = true≢false (sym (inside-covers i) ∙ e)
+
+-- ---- a partition by straight lines
+
+-- a pixel of the box lies in one half, and no other pixel lies in any
+cut-one : (l : Line) (w : Rect) → Cuts l w → (u v : ℕ) → one (covers (fore l w) u v) + one (covers (rear l w) u v) ≡ one (covers w u v)
+cut-one (column c) w h u v =
+    let f = fore (column c) w in
+    let r = rear (column c) w in
+    by-bool (covers w u v)
+    (λ e.
+    let i = covers-inside w u v e in
+    by-lt u (w .left + c)
+    (λ l. rw (e, inside-covers f u v (omega (arith, i)), not-inside r u v (λ j. omega (arith, j))))
+    (λ l. rw (e, inside-covers r u v (omega (arith, i)), not-inside f u v (λ j. omega (arith, j)))))
+    (λ e.
+    let n = not-covers w u v e in
+    rw (e, not-inside f u v (λ j. n (omega (arith, j))), not-inside r u v (λ j. n (omega (arith, j)))))
+cut-one (row c) w h u v =
+    let f = fore (row c) w in
+    let r = rear (row c) w in
+    by-bool (covers w u v)
+    (λ e.
+    let i = covers-inside w u v e in
+    by-lt v (w .top + c)
+    (λ l. rw (e, inside-covers f u v (omega (arith, i)), not-inside r u v (λ j. omega (arith, j))))
+    (λ l. rw (e, inside-covers r u v (omega (arith, i)), not-inside f u v (λ j. omega (arith, j)))))
+    (λ e.
+    let n = not-covers w u v e in
+    rw (e, not-inside f u v (λ j. n (omega (arith, j))), not-inside r u v (λ j. n (omega (arith, j)))))
+
+cover-append : (fs rs : List Rect) (u v : ℕ) → coverCount (fs ++ rs) u v ≡ coverCount fs u v + coverCount rs u v
+unfolding coverCount
+cover-append [] rs u v = omega arith
+cover-append (a ∷ fs) rs u v = omega (arith, cover-append fs rs u v)
+
+by-itself : (box : Rect) → Partition box (box ∷ [])
+unfolding coverCount
+by-itself box u v = add-zero (one (covers box u v))
+
+pub cutting : Cutting
+cutting = (by-itself, λ l box h fs rs p q u v. cover-append fs rs u v ∙ rw (p u v, q u v) (cut-one l box h u v))
 
 -- ---- a count over a range as one over the numbers below a bound
 
