@@ -17,6 +17,10 @@ ATTACHMENT_GUID = 16
 ATTACHMENT_FILE_TYPE = 8
 ATTACHMENT_NAME = 80
 
+# The most that an accepted file has: tiles, and dimensions of a tile.
+MOST_TILES = 4096
+MOST_DIMENSIONS = 16
+
 _LENT = [c_void_p, c_size_t]
 _U64 = POINTER(c_uint64)
 _I32 = POINTER(c_int32)

@@ -104,6 +104,40 @@ class Records(unittest.TestCase):
             self.assertEqual(tile.pixels.stop - tile.pixels.start, area * tile.pixel_type.bytes)
         self.assertEqual([czi.pixel_bytes(n) for n in range(14)], [1, 2, 4, 3, 6, 0, 0, 0, 12, 4, 8, 24, 0, 0])
 
+    def test_records_are_tiles_with_their_dimensions(self):
+        for name in ("mosaic", "free", "pyramids", "smallest"):
+            file = sample(name)
+            found = czi.records(file)
+            self.assertEqual([record.tile for record in found], czi.tiles(file))
+            for tile, dimensions in found:
+                self.assertEqual(tile, czi.tile(file, tile.entry))
+                self.assertEqual(dimensions, czi.dimensions(file, tile.entry))
+                self.assertEqual(len(dimensions), tile.dimensions)
+                starts = {d.letter: (d.start, d.size, d.stored) for d in dimensions}
+                self.assertEqual((starts["X"], starts["Y"]), (tile.x, tile.y))
+        self.assertEqual("".join(d.letter for d in czi.records(sample("mosaic"))[3].dimensions), "XYCSM")
+
+    def test_attachments_are_named(self):
+        file = sample("mosaic")
+        attachment, = czi.attachments(file)
+        self.assertEqual(attachment, czi.attachment(file, 0))
+        self.assertEqual((attachment.name_text, attachment.file_type_text), ("TimeStamps", "CZTIMS"))
+        self.assertEqual((attachment.name, attachment.file_type), (b"TimeStamps".ljust(80, b"\0"), b"CZTIMS\0\0"))
+        self.assertEqual(attachment.guid, bytes(range(16, 32)))
+        self.assertEqual(attachment.guid_text, "{13121110-1514-1716-1819-1A1B1C1D1E1F}")
+        self.assertEqual(file[attachment.data], czi.attachment_data(file, 0))
+        self.assertEqual(czi.attachments(sample("smallest")), [])
+
+    def test_a_name_of_any_bytes(self):
+        file = bytearray(sample("mosaic"))
+        first = file.index(b"A1")
+        for place in (first, file.index(b"A1", first + 1)):
+            file[place + 40:place + 48] = b"ABCDEFGH"
+            file[place + 48:place + 58] = b"x\xFF\xC3\xA9\0more\xFF"
+        attachment = czi.attachment(file, 0)
+        self.assertEqual((attachment.file_type_text, attachment.name_text), ("ABCDEFGH", "x\uFFFD\u00E9"))
+        self.assertEqual(attachment.name[:10], b"x\xFF\xC3\xA9\0more\xFF")
+
     def test_dimensions_keep_their_bits(self):
         dimensions = czi.dimensions(sample("free"), 9)
         self.assertEqual("".join(d.letter for d in dimensions), "ABCDMXTYZSR")
