@@ -35,11 +35,12 @@ def count(file, window=None, pixel_type=None, *, starts=None, scene=0, masks=Fal
     for end in ends(*window):
         refuse_early(file, end, pixel_type, starts, scene)
     cut = Cut(*window, pixel_bytes(pixel_type), memory)
-    covered, target, map_ = 0, None, None
+    pixels, covered = cut.wide * cut.high, 0
+    target = map_ = None
     for part in cut.met(lambda block: chosen(file, block, starts=starts, scene=scene).meeting != 0):
         if target is None:
             # For the largest part: the others take that memory again.
-            target, map_ = bytearray(cut.wide * cut.high * pixel_bytes(pixel_type)), bytearray((cut.wide * cut.high + 7) // 8)
+            target, map_ = bytearray(pixels * pixel_bytes(pixel_type)), bytearray((pixels + 7) // 8)
         plane = compose(file, part, pixel_type, starts=starts, scene=scene, masks=masks, target=target, map=map_)
         covered += plane.covered
     return Count(covered, cut.width * cut.height, cut.columns * cut.rows)
@@ -65,8 +66,8 @@ class Cut:
         self.columns, self.rows = -(-width // self.wide), -(-height // self.high)
 
     def met(self, is_met):
-        """The parts that are met, row by row. A block of parts of which none is met is not met itself and is left out whole, so
-        that a window that is empty for the most part takes few questions."""
+        """The parts that are met, row by row. A block of parts of which none is met is not met itself and is left out
+        whole, so that a window that is empty for the most part takes few questions."""
         blocks = [(range(self.columns), range(self.rows))]
         while blocks:
             columns, rows = blocks.pop()
