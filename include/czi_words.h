@@ -60,7 +60,7 @@ static inline void *czi_none(void) {
     return &nothing;
 }
 
-/* It goes wherever a pointer is asked for with a length of 0: a file, starts, a target, a map. */
+/* It goes wherever a pointer is asked for with a length of 0: a file, starts, a target, a map, marks, arrays of records. */
 #ifdef __cplusplus
 struct czi_nothing {
     template <class T> operator T *() const { return static_cast<T *>(czi_none()); }

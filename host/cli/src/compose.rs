@@ -1,5 +1,6 @@
 //! The command `compose`: a plane and its map, composed by rows of windows so that
-//! the memory does not grow with the plane. The parts are the whole: demand 3.
+//! the memory does not grow with the plane. Each part shows what the whole window
+//! shows there: demand 3.
 
 use crate::answer::{finish, is_standard, Answer, Sink};
 use crate::arguments::{choose, Arguments, Takes};
