@@ -58,7 +58,7 @@ struct Info {
 impl Info {
     fn of(file: &[u8]) -> Result<Info, Failure> {
         let summary = czi::summary(file)?;
-        let all: Vec<Record> = czi::records(file)?.collect();
+        let all: Vec<Record> = czi::all_records(file)?.collect();
         let pyramid = |record: &&Record| record.tile.is_pyramid_tile();
         Ok(Info {
             types: types_of(&all),

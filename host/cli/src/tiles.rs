@@ -19,7 +19,7 @@ const TAKES: Takes = Takes {
 pub fn run(words: Vec<OsString>) -> Result<Answer, Failure> {
     let arguments = Arguments::parse(words, &TAKES)?;
     let input = Input::open(&arguments.only_path("FILE")?)?;
-    let all: Vec<Record> = input.reading(|file| Ok(czi::records(file)?.collect()))?;
+    let all: Vec<Record> = input.reading(|file| Ok(czi::all_records(file)?.collect()))?;
     let lines = match arguments.flag("--json") {
         false => all.iter().map(line).collect(),
         true => {

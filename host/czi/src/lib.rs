@@ -5,8 +5,8 @@
 //! has to be checked before a call, and no call changes a byte of the file or
 //! keeps anything. Each question judges the whole file first: what [`judge`]
 //! refuses, all of them refuse alike (but that [`list`] looks at the length
-//! before); [`tiles`] and [`records`] give all records for one judgement or two. A
-//! [`Refusal`] has a number of paper 01's table and a place.
+//! before); [`tiles`] and [`all_records`] give every record for one judgement or
+//! two. A [`Refusal`] has a number of paper 01's table and a place.
 //!
 //! ```
 //! # fn main() -> Result<(), Box<dyn std::error::Error>> {
@@ -62,4 +62,4 @@ pub use reader::{
 };
 pub use records::{Dimension, Edges, Extent, Mask, Summary, Tile};
 pub use refusal::{Reason, Refusal};
-pub use tiles::{dimensions, records, tiles, Record, Records, Tiles};
+pub use tiles::{all_records, dimensions, tiles, Record, Records, Tiles};

@@ -67,7 +67,7 @@ pub fn tiles(file: &[u8]) -> Result<Tiles, Refusal> {
 /// directory. The file is judged twice, whatever it has.
 ///
 /// Refusals: those of [`judge`](crate::judge).
-pub fn records(file: &[u8]) -> Result<Records, Refusal> {
+pub fn all_records(file: &[u8]) -> Result<Records, Refusal> {
     let tiles = tile_records(file)?;
     let rows = tiles.iter().map(|tile| tile.dimensions as usize).sum();
     let mut dimensions = dimension_records(file, rows)?.into_iter();

@@ -93,7 +93,7 @@ fn all_tiles_are_those_asked_for_one_by_one() {
 fn records_are_tiles_with_their_dimensions() {
     for name in ["mosaic.czi", "free.czi", "pyramids.czi", "smallest.czi"] {
         let file = sample(name);
-        let records = czi::records(&file).unwrap();
+        let records = czi::all_records(&file).unwrap();
         assert_eq!(records.len() as u64, czi::summary(&file).unwrap().tiles);
         for (entry, record) in (0..).zip(records) {
             assert_eq!(record.tile, czi::tile(&file, entry).unwrap(), "{name}");
@@ -110,7 +110,7 @@ fn records_are_tiles_with_their_dimensions() {
     }
     let refused = sample("refusal-09.czi");
     let refusal = czi::judge(&refused).unwrap_err();
-    assert_eq!(czi::records(&refused).map(|_| ()), Err(refusal));
+    assert_eq!(czi::all_records(&refused).map(|_| ()), Err(refusal));
 }
 
 #[test]

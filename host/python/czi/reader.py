@@ -88,7 +88,7 @@ def tiles(file):
     return [tile_of(numbers, starts) for numbers, starts in rows]
 
 
-def records(file):
+def all_records(file):
     """The records of all tiles with all of their dimensions, in the order of the directory. The file is judged twice."""
     found = tiles(file)
     rows = iter(_dimensions(file, sum(one.dimensions for one in found)))

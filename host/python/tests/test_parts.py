@@ -107,7 +107,7 @@ class Records(unittest.TestCase):
     def test_records_are_tiles_with_their_dimensions(self):
         for name in ("mosaic", "free", "pyramids", "smallest"):
             file = sample(name)
-            found = czi.records(file)
+            found = czi.all_records(file)
             self.assertEqual([record.tile for record in found], czi.tiles(file))
             for tile, dimensions in found:
                 self.assertEqual(tile, czi.tile(file, tile.entry))
@@ -115,7 +115,7 @@ class Records(unittest.TestCase):
                 self.assertEqual(len(dimensions), tile.dimensions)
                 starts = {d.letter: (d.start, d.size, d.stored) for d in dimensions}
                 self.assertEqual((starts["X"], starts["Y"]), (tile.x, tile.y))
-        self.assertEqual("".join(d.letter for d in czi.records(sample("mosaic"))[3].dimensions), "XYCSM")
+        self.assertEqual("".join(d.letter for d in czi.all_records(sample("mosaic"))[3].dimensions), "XYCSM")
 
     def test_attachments_are_named(self):
         file = sample("mosaic")

@@ -39,7 +39,7 @@ class Samples(unittest.TestCase):
         for name, file, _, said in listings():
             if said.get("refused", "30") != "30":
                 wanted = int(said["refused"]), int(said["place"])
-                for call in (czi.judge, czi.summary, czi.tiles, czi.records, czi.attachments, czi.common_xml, czi.chosen,
+                for call in (czi.judge, czi.summary, czi.tiles, czi.all_records, czi.attachments, czi.common_xml, czi.chosen,
                              czi.compose, czi.count):
                     self.assertEqual(refusal_of(call, file), wanted, (name, call))
                 for call in (czi.tile, czi.dimensions, czi.tile_pixels, czi.attachment, czi.attachment_data):
