@@ -46,6 +46,25 @@ fn a_line_a_tile() {
     );
 }
 
+/// No file has more tiles, and each is there.
+#[test]
+fn every_tile_of_the_largest_file() {
+    let folder = Folder::new("largest");
+    let tiles: Vec<Tile> = (0..4097).map(|k| gray8(k, 0, 1, 1)).collect();
+    let file = folder.write("largest.czi", &mosaic(&tiles[..4096]));
+    let lines = prints(&["tiles", &file]);
+    for (k, line) in lines.lines().enumerate() {
+        assert!(line.starts_with(&format!("tile={k} type=gray8 x={k} y=0 ")));
+    }
+    assert_eq!(lines.matches(" S=0 pyramid=no mask=none\n").count(), 4096);
+    let counted = prints(&["count", &file]);
+    assert!(counted.starts_with("covered=4096\npixels=4096\n"));
+    assert!(counted.contains("tiles=4096 selected=4096 meet=4096 "));
+    assert!(prints(&["info", &file]).contains("letter=S tiles=4096 "));
+    let more = folder.write("more.czi", &mosaic(&tiles));
+    fails(&["tiles", &more], 2, "refused 10 at ");
+}
+
 #[test]
 fn figures_that_explain_a_count() {
     let folder = Folder::new("info");
