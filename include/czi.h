@@ -150,7 +150,7 @@ uint32_t czi_attachment(const uint8_t *file, size_t file_len, uint64_t entry,
 
 /* What stands where in numbers. Starts are offsets in the file. */
 enum {
-    CZI_TILE_ENTRY = 0,              /* the number that was asked for */
+    CZI_TILE_ENTRY = 0,              /* the entry's number, from 0 */
     CZI_TILE_PLACE = 1,              /* where the entry stands */
     CZI_TILE_PIXEL_TYPE = 2,
     CZI_TILE_POSITION = 3,           /* where its sub-block stands */
