@@ -9,7 +9,7 @@ use std::ops::Range;
 /// The record of an attachment.
 #[derive(Clone, Debug, PartialEq, Eq)]
 pub struct Attachment {
-    /// The number that was asked for.
+    /// The number of its entry, from 0.
     pub entry: u64,
     /// The content GUID, its bytes as they stand in the file.
     pub guid: [u8; ATTACHMENT_GUID],
