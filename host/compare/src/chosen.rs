@@ -51,7 +51,7 @@ pub fn check(
     report.calls += 1;
     report.chosen += 1;
     let wanted = file.as_ref().map(|file| file.chosen(question));
-    let tiles = wanted.as_ref().map_or(3, Vec::len);
+    let tiles = wanted.as_ref().map_or(0, Vec::len);
     let (length, kind) = match (&wanted, random.below(5)) {
         (Err(_), more) => (more, "marks for a refused file"),
         (Ok(_), 0) if tiles > 0 => (tiles - 1, "marks one too short"),
@@ -68,7 +68,7 @@ pub fn check(
             for (mark, chosen) in wanted_marks.lend().iter_mut().zip(chosen) {
                 *mark = mark_of(*chosen);
             }
-            let count = |most: u8| chosen.iter().filter(|c| mark_of(**c) >= most).count() as u64;
+            let count = |least| chosen.iter().filter(|c| mark_of(**c) >= least).count() as u64;
             Ok(ChosenCounts {
                 selected: count(1),
                 meeting: count(2),
