@@ -1,8 +1,8 @@
 /* Reads CZI microscope files (ZISRAW): judges one, hands out its parts and records, lists it, and composes its planes.
  *
  * A file is lent as its bytes, a pointer and a length. Any bytes and any number get an answer: nothing has to be
- * checked before a call, and no call changes a byte of the file. Lent to be written are a target, a map and the arrays
- * of a record: a refused call changes none of them.
+ * checked before a call, and no call changes a byte of the file. Lent to be written are a target, a map, marks and the
+ * arrays of records: a refused call changes none of them.
  *
  * Every function with a file but czi_list returns the number of the refusal, 0 where there is none. A single number
  * behind an out-pointer is part of the answer: it is written always, and is 0 where there is nothing to say.
@@ -12,16 +12,18 @@
  *
  * What a caller owes, which nothing here tests:
  *   - No pointer is NULL, not even that of a file of length 0: CZI_NONE is a pointer for what has no length.
- *   - file has file_len bytes, and so for all that is lent; an out-pointer is to as many objects of its type as named.
- *   - What is written, a target, a map or what stands behind an out-pointer, is apart from all else that is given.
+ *   - file has file_len bytes, and so for all that is lent: a length counts objects of the pointer's type. An out-pointer
+ *     is to as many objects of its type as named.
+ *   - What is written, what is lent to be and what stands behind an out-pointer, is apart from all else that is given.
  *   - What is lent stays still: while a call runs nobody else writes to the file's bytes or to anything that the call
  *     is given. So a mapped file must not be changed, and not be cut either: a read past its end is a SIGBUS.
  *
  * Platform and cost: x86-64 and Linux, nothing but memcpy, memmove and memset of libc. No memory is allocated. A call
  * takes some 80 KiB of stack, one that composes some 150. It judges the file each time: that reads the headers of its
  * segments, its entries and what belongs to its tiles but the pixels, so it grows with the number of tiles and the
- * length of their metadata. Whoever asks for many records or parts pays for each. No function keeps a pointer, and
- * there is no state: calls may run side by side.
+ * length of their metadata. czi_tiles and czi_dimensions give all records of a file for one judgement each, and a tile
+ * record says where the tile's parts lie; whoever asks one by one pays a judgement for each answer. No function keeps a
+ * pointer, and there is no state: calls may run side by side.
  *
  * When each refusal is given. A file is segments one behind the other: a header of 32 bytes (a name of 16,
  * AllocatedSize, UsedSize) and AllocatedSize bytes, of which the first UsedSize are in use (0 means all): its room. The
@@ -58,7 +60,8 @@
  *                       tile's second.
  *   20 window           Of a composer: a side is not 1 to 65,536, or the right or bottom edge is above 2,147,483,647.
  *   21 asked pixel      Of a composer: there is no such pixel type, or the background is not one pixel long.
- *   22 lent too short   Of a composer: the target or the map is too short.
+ *   22 lent too short   Of a composer: the target or the map is too short. Of czi_tiles, czi_dimensions and czi_chosen: an
+ *                       array is too short for all tiles, or for all of their dimensions.
  *   23 a tile's type    Of a composer: a selected tile that meets the window has another pixel type than was asked for;
  *                       the place is the first such entry's.
  *   24 no such number   There is no tile, dimension or attachment of the number asked for; they are counted from 0.
@@ -130,12 +133,24 @@ uint32_t czi_common_xml(const uint8_t *file, size_t file_len,
 uint32_t czi_common_attachment(const uint8_t *file, size_t file_len,
                                uint64_t *place, uint64_t *start, uint64_t *length);
 
+/* The record of an attachment: what its entry says, and where its data lie. guid is to CZI_ATTACHMENT_GUID bytes,
+ * file_type to CZI_ATTACHMENT_FILE_TYPE, name to CZI_ATTACHMENT_NAME; a refused call leaves the three as they were.
+ *   guid        the content GUID, its bytes as they stand in the file: printed, its first three groups are little-endian
+ *   file_type   any bytes; mostly letters, and zeros behind them
+ *   name        one of its bytes is zero: the name ends there, and any bytes may follow
+ * start and length are those of czi_attachment_data. */
+enum { CZI_ATTACHMENT_GUID = 16, CZI_ATTACHMENT_FILE_TYPE = 8, CZI_ATTACHMENT_NAME = 80 };
+
+uint32_t czi_attachment(const uint8_t *file, size_t file_len, uint64_t entry,
+                        uint64_t *place, uint8_t *guid, uint8_t *file_type, uint8_t *name,
+                        uint64_t *start, uint64_t *length);
+
 /* ---- The tile record, as 22 numbers and 3 signed ones, in two arrays that are lent. A refused call leaves both as they
  * were. */
 
 /* What stands where in numbers. Starts are offsets in the file. */
 enum {
-    CZI_TILE_ENTRY = 0,              /* the number that was asked for */
+    CZI_TILE_ENTRY = 0,              /* the entry's number, from 0 */
     CZI_TILE_PLACE = 1,              /* where the entry stands */
     CZI_TILE_PIXEL_TYPE = 2,
     CZI_TILE_POSITION = 3,           /* where its sub-block stands */
@@ -172,6 +187,16 @@ enum {
 uint32_t czi_tile(const uint8_t *file, size_t file_len, uint64_t entry,
                   uint64_t *place, uint64_t *numbers, int32_t *starts);
 
+/* The records of all tiles, in the order of the directory: what czi_tile gives for entry k stands in numbers from
+ * CZI_TILE_NUMBERS * k on and in starts from CZI_TILE_STARTS * k on.
+ *
+ * 22 where an array is too short for that; longer ones are fine, and what is past the records stays.
+ * tiles is how many an accepted file has, at most 4,096, also where 22 is given: a call with no arrays (CZI_NONE and 0
+ * for each) asks for it. 0 where the file is refused. */
+uint32_t czi_tiles(const uint8_t *file, size_t file_len,
+                   uint64_t *numbers, size_t numbers_len, int32_t *starts, size_t starts_len,
+                   uint64_t *place, uint64_t *tiles);
+
 /* ---- A dimension of a tile, counted from 0 as the entry has them; 24 where there is none of that number.
  *
  * letter is that of A to Z, as 65 to 90; coordinate_bits the 32 bits of StartCoordinate, a 32-bit float, unchanged,
@@ -179,6 +204,26 @@ uint32_t czi_tile(const uint8_t *file, size_t file_len, uint64_t entry,
 uint32_t czi_dimension(const uint8_t *file, size_t file_len, uint64_t entry, uint64_t dimension,
                        uint64_t *place, uint64_t *letter, int32_t *start, uint64_t *size,
                        uint32_t *coordinate_bits, uint64_t *stored);
+
+/* What stands where in the numbers of a dimension, where all are asked for. */
+enum {
+    CZI_DIMENSION_ENTRY = 0,         /* the number of the tile's entry */
+    CZI_DIMENSION_LETTER = 1,
+    CZI_DIMENSION_SIZE = 2,
+    CZI_DIMENSION_COORDINATE_BITS = 3,
+    CZI_DIMENSION_STORED = 4,
+    CZI_DIMENSION_NUMBERS = 5        /* how many there are */
+};
+
+/* The records of all dimensions of all tiles: tile by tile in the order of the directory, and those of a tile as its
+ * entry has them. The one of row r has its numbers from CZI_DIMENSION_NUMBERS * r on, and its start at starts[r]. The
+ * rows of a tile begin behind those of the tiles before it; its record says how many it has (CZI_TILE_DIMENSIONS).
+ *
+ * 22, arrays and counts as for czi_tiles: dimensions is how many rows there are, at most 65,536, also where 22 is
+ * given; 0 where the file is refused. */
+uint32_t czi_dimensions(const uint8_t *file, size_t file_len,
+                        uint64_t *numbers, size_t numbers_len, int32_t *starts, size_t starts_len,
+                        uint64_t *place, uint64_t *dimensions);
 
 /* ---- The summary of a file of any size.
  *
@@ -242,6 +287,29 @@ uint32_t czi_compose_quick(const uint8_t *file, size_t file_len,
                            int32_t left, int32_t top, uint32_t width, uint32_t height, uint32_t masks,
                            uint8_t *target, size_t target_len, uint8_t *map, size_t map_len,
                            uint64_t *place, uint64_t *covered, uint64_t *stored);
+
+/* ---- Which tiles a question selects, and which of them share a pixel with its window: by the same definitions as the
+ * composers. Masks do not enter.
+ *
+ * starts, any_scene, left, top, width and height are those of a composer, but that any window may be asked about: 20 is
+ * not given here, whatever the sides and edges. One with a side of 0 shares a pixel with no tile.
+ *
+ * marks        a mark for each tile, in the order of the directory. 22 where there are fewer marks than tiles; what is
+ *              past the tiles stays, and a refused call leaves all of them as they were.
+ * selected     how many tiles are selected: the marks that are not 0. 0 where refused.
+ * meeting      how many of them share a pixel with the window: the marks that are 2. 0 where refused. Where it is 0, a
+ *              composer would count 0 covered pixels in that window. */
+enum {
+    CZI_MARK_NOT_SELECTED = 0,
+    CZI_MARK_SELECTED = 1,           /* and it shares no pixel with the window */
+    CZI_MARK_MEETS = 2               /* selected, and it shares a pixel with the window */
+};
+
+uint32_t czi_chosen(const uint8_t *file, size_t file_len,
+                    const int32_t *starts, size_t starts_len, uint32_t any_scene,
+                    int32_t left, int32_t top, uint32_t width, uint32_t height,
+                    uint8_t *marks, size_t marks_len,
+                    uint64_t *place, uint64_t *selected, uint64_t *meeting);
 
 #ifdef __cplusplus
 }

@@ -30,7 +30,7 @@ static inline const char *czi_refusal_words(uint32_t number) {
     case 18: return "mask not as the rules say";
     case 20: return "window side not 1 to 65,536, or right or bottom edge above 2,147,483,647";
     case 21: return "asked type not listed, or background not one pixel long";
-    case 22: return "target or map too short";
+    case 22: return "target, map or array too short";
     case 23: return "a selected tile that meets the window has another type";
     case 24: return "no entry of that number, counted from 0";
     case 30: return "listing only: input over 65,536 bytes";
@@ -60,7 +60,7 @@ static inline void *czi_none(void) {
     return &nothing;
 }
 
-/* It goes wherever a pointer is asked for with a length of 0: a file, starts, a target, a map. */
+/* It goes wherever a pointer is asked for with a length of 0: a file, starts, a target, a map, marks, arrays of records. */
 #ifdef __cplusplus
 struct czi_nothing {
     template <class T> operator T *() const { return static_cast<T *>(czi_none()); }

@@ -1,9 +1,9 @@
-//! Judging alone, against the reference; equal ranges alone, against memcmp.
+//! Judging alone, against the reference; views and records, against judging; equal ranges alone, against memcmp.
 
 use crate::mosaic::{grid, named_often, Mosaic, TileMask};
 use crate::probe;
 use crate::timing::{least, time, Rounds, Side};
-use czi::PixelType;
+use czi::{calls, PixelType};
 use std::hint::black_box;
 use std::time::Duration;
 
@@ -59,6 +59,46 @@ pub fn views(rounds: Rounds) -> ([Duration; 5], Duration) {
     let sides: [Side<()>; 6] = [&judge, &asks[0], &asks[1], &asks[2], &asks[3], &asks[4]];
     let [judged, views @ ..]: [Duration; 6] = least(rounds, &mut (), sides);
     (views, judged)
+}
+
+/// So many letters has a tile whose records are asked for.
+const LETTERS: usize = 5;
+const TILES: usize = 4096;
+
+/// All records of 4,096 tiles with 5 dimensions each, which are both tables; and judging the same file.
+pub fn records(rounds: Rounds) -> [Duration; 2] {
+    let tiles = grid(64, 16, 16, TileMask::None);
+    let file = Mosaic::with_letters(PixelType::Gray8, &tiles, 4094, b"CS").bytes;
+    let row = |width: usize| vec![0; width * TILES];
+    let mut tables = Tables {
+        tiles: (
+            row(calls::TILE_NUMBERS),
+            vec![0; calls::TILE_STARTS * TILES],
+        ),
+        dimensions: (
+            row(calls::DIMENSION_NUMBERS * LETTERS),
+            vec![0; LETTERS * TILES],
+        ),
+    };
+    let all = |tables: &mut Tables| {
+        time(|| {
+            let (numbers, starts) = &mut tables.tiles;
+            let tiles = calls::tiles(black_box(&file), numbers, starts);
+            let (numbers, starts) = &mut tables.dimensions;
+            let dimensions = calls::dimensions(black_box(&file), numbers, starts);
+            assert_eq!((tiles.number, tiles.value), (0, TILES as u64));
+            let rows = (LETTERS * TILES) as u64;
+            assert_eq!((dimensions.number, dimensions.value), (0, rows));
+        })
+    };
+    let judge = |_: &mut Tables| time(|| czi::judge(black_box(&file)).expect("an accepted file"));
+    least(rounds, &mut tables, [&all, &judge])
+}
+
+/// The arrays that are lent, of both tables.
+struct Tables {
+    tiles: (Vec<u64>, Vec<i32>),
+    dimensions: (Vec<u64>, Vec<i32>),
 }
 
 /// The length of the ranges compared.

@@ -62,11 +62,21 @@ pub fn grid(columns: usize, side: usize, step: usize, mask: TileMask) -> Vec<Til
 impl Mosaic {
     /// A file of these tiles, and so many DELETED segments.
     pub fn new(pixel_type: PixelType, tiles: &[Tile], deleted: usize) -> Mosaic {
+        Mosaic::with_letters(pixel_type, tiles, deleted, b"")
+    }
+
+    /// The same, each tile with these letters behind X, Y and M, all of which start at 0.
+    pub fn with_letters(
+        pixel_type: PixelType,
+        tiles: &[Tile],
+        deleted: usize,
+        letters: &[u8],
+    ) -> Mosaic {
         let mut bytes = file_segment();
         let mut entries = Vec::new();
         let mut places = Vec::new();
         for tile in tiles {
-            let entry = tile.entry(pixel_type, bytes.len());
+            let entry = tile.entry(pixel_type, bytes.len(), letters);
             let (content, pixels) = tile.content(pixel_type, &entry);
             places.push((*tile, bytes.len() + 32 + pixels));
             segment(&mut bytes, Kind::SubBlock, &content);
@@ -88,7 +98,7 @@ impl Mosaic {
 pub fn named_often(entries: usize) -> Vec<u8> {
     let tile = grid(1, 16, 16, TileMask::None)[0];
     let mut bytes = file_segment();
-    let entry = tile.entry(PixelType::Gray8, bytes.len());
+    let entry = tile.entry(PixelType::Gray8, bytes.len(), b"");
     let (content, _) = sub_block(&entry, &vec![b' '; METADATA], &[0; 256], &[0; 32]);
     segment(&mut bytes, Kind::SubBlock, &content);
     directory(&mut bytes, &vec![entry; entries]);
@@ -96,17 +106,19 @@ pub fn named_often(entries: usize) -> Vec<u8> {
 }
 
 impl Tile {
-    fn entry(&self, pixel_type: PixelType, position: usize) -> Vec<u8> {
+    fn entry(&self, pixel_type: PixelType, position: usize, letters: &[u8]) -> Vec<u8> {
         let mut entry = b"DV".to_vec();
         entry.extend(pixel_type.number().to_le_bytes());
         entry.extend((position as i64).to_le_bytes());
         entry.extend([0; 14]);
-        entry.extend(3i32.to_le_bytes());
-        for (letter, start, size) in [
+        entry.extend((3 + letters.len() as i32).to_le_bytes());
+        let first = [
             (b'X', self.left, self.side),
             (b'Y', self.top, self.side),
             (b'M', self.layer, 1),
-        ] {
+        ];
+        let others = letters.iter().map(|letter| (*letter, 0, 1));
+        for (letter, start, size) in first.into_iter().chain(others) {
             entry.extend([letter, 0, 0, 0]);
             entry.extend((start as i32).to_le_bytes());
             entry.extend((size as i32).to_le_bytes());

@@ -119,6 +119,10 @@ impl Report {
             self.limits
                 .push(Line::new(measure, took, judged).at_most(1.1));
         }
+        let [records, judged] = leaves::records(rounds);
+        let measure = "all records of 4,096 tiles, 5 dimensions each / judge";
+        self.limits
+            .push(Line::new(measure, records, judged).at_most(3.0));
         if all {
             self.others
                 .push(line("each with a mask", TileMask::AllValid));

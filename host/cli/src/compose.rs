@@ -1,5 +1,6 @@
 //! The command `compose`: a plane and its map, composed by rows of windows so that
-//! the memory does not grow with the plane. The parts are the whole: demand 3.
+//! the memory does not grow with the plane. Each part shows what the whole window
+//! shows there: demand 3.
 
 use crate::answer::{finish, is_standard, Answer, Sink};
 use crate::arguments::{choose, Arguments, Takes};
@@ -97,9 +98,9 @@ fn compose(
     if plane.summary.tiles == 0 && plane.question.pixel_type.is_none() {
         return Err(missing("tiles, so a --type must be given"));
     }
-    let ((sinks, sums), pixel_type) = plane.with_type(window, |pixel_type| {
-        paint(plane, window, pixel_type, composer, places)
-    })?;
+    let pixel_type = plane.pixel_type(window)?;
+    let (sinks, sums) = paint(plane, window, pixel_type, composer, places)
+        .map_err(|failure| plane.explained(window, pixel_type, failure))?;
     let stored = match composer {
         Composer::Both => format!(
             "stored={} plain, {} quick\nboth composers agree",

@@ -1,5 +1,7 @@
 //! The command `count`: covered pixels of a window, cut into parts that run side
-//! by side. The counts of the parts add up to that of the whole: demand 3.
+//! by side. It is proved that the counts of the parts of any cut add up to that of
+//! the whole, and that a part which no selected tile meets has none: such parts are
+//! passed over.
 
 use crate::answer::Answer;
 use crate::arguments::{number, Arguments, Takes};
@@ -8,11 +10,11 @@ use crate::input::Input;
 use crate::plane::Plane;
 use crate::progress::Progress;
 use crate::question::Question;
-use crate::window::Cut;
+use crate::window::{Cut, Window};
 use crate::{memory, types};
 use czi::calls;
 use std::ffi::OsString;
-use std::sync::atomic::{AtomicBool, AtomicU64, Ordering::SeqCst};
+use std::sync::atomic::{AtomicBool, AtomicU64, AtomicUsize, Ordering::SeqCst};
 use std::sync::Mutex;
 use std::thread;
 
@@ -24,6 +26,9 @@ const TAKES: Takes = Takes {
 
 /// The most jobs that may be asked for.
 const JOBS: usize = 1024;
+
+/// So many parts are asked about at once before the jobs begin, which ask about each.
+const FEW: u64 = 8;
 
 /// Counts and answers the lines.
 pub fn run(words: Vec<OsString>) -> Result<Answer, Failure> {
@@ -52,14 +57,13 @@ fn count(plane: &Plane, jobs: usize) -> Result<String, Failure> {
         let chosen = plane.chosen(None);
         return Ok(format!("covered=0\npixels=0\nwindows=0\n{chosen}"));
     };
+    let pixel_type = plane.pixel_type(window)?;
     let memory = memory::MOST / jobs as u64;
-    let ((covered, parts), pixel_type) = plane.with_type(window, |pixel_type| {
-        let cut = Cut::new(window, memory::pixels(memory, types::bytes(pixel_type)));
-        let covered = sum(plane, &cut, pixel_type, jobs)?;
-        Ok((covered, cut.parts()))
-    })?;
+    let cut = Cut::new(window, memory::pixels(memory, types::bytes(pixel_type)));
+    let covered = sum(plane, &cut, pixel_type, jobs)
+        .map_err(|failure| plane.explained(window, pixel_type, failure))?;
     let chosen = plane.chosen((plane.summary.tiles != 0).then_some(pixel_type));
-    let pixels = window.pixels();
+    let (pixels, parts) = (window.pixels(), cut.parts());
     Ok(format!(
         "covered={covered}\npixels={pixels}\nwindows={parts}\n{chosen}"
     ))
@@ -70,28 +74,32 @@ struct Shared<'a> {
     plane: &'a Plane<'a>,
     cut: &'a Cut,
     pixel_type: u32,
-    /// The next part that nobody has taken.
-    next: AtomicU64,
+    /// The numbers of the parts that may be met.
+    parts: Vec<u64>,
+    /// Which of them nobody has taken yet.
+    next: AtomicUsize,
     covered: AtomicU64,
     stop: AtomicBool,
-    /// The failure of the part with the least number.
-    failed: Mutex<Option<(u64, Failure)>>,
+    /// The failure of the first of those parts that fails.
+    failed: Mutex<Option<(usize, Failure)>>,
     progress: Progress,
 }
 
 /// The sum of the parts' counts.
 fn sum(plane: &Plane, cut: &Cut, pixel_type: u32, jobs: usize) -> Result<u64, Failure> {
+    let parts = cut.may_be_met(FEW, |part| plane.is_met(part))?;
+    let jobs = parts.len().min(jobs);
     let shared = Shared {
         plane,
         cut,
         pixel_type,
-        next: AtomicU64::new(0),
+        next: AtomicUsize::new(0),
         covered: AtomicU64::new(0),
         stop: AtomicBool::new(false),
         failed: Mutex::new(None),
-        progress: Progress::new(cut.parts()),
+        progress: Progress::new(parts.len() as u64),
+        parts,
     };
-    let jobs = cut.parts().min(jobs as u64);
     if jobs == 1 {
         shared.work();
     } else {
@@ -126,28 +134,42 @@ impl Shared<'_> {
         };
         let background = self.plane.background(self.pixel_type);
         while !self.stop.load(SeqCst) {
-            let number = self.next.fetch_add(1, SeqCst);
-            if number >= self.cut.parts() {
+            let taken = self.next.fetch_add(1, SeqCst);
+            let Some(number) = self.parts.get(taken) else {
                 return;
-            }
-            let part = self.cut.part(number);
-            let question = self.plane.plain(part, self.pixel_type, &background);
-            let answer = calls::compose_quick(self.plane.file, &question, &mut target, &mut map);
-            match answer.result() {
-                Ok(counted) => self.covered.fetch_add(counted.covered, SeqCst),
-                Err(refusal) => return self.fail(number, refusal.into()),
+            };
+            let part = self.cut.part(*number);
+            match self.covered_in(part, &background, &mut target, &mut map) {
+                Ok(covered) => self.covered.fetch_add(covered, SeqCst),
+                Err(failure) => return self.fail(taken, failure),
             };
             self.progress.step();
         }
     }
 
+    /// How many pixels of a part are covered.
+    fn covered_in(
+        &self,
+        part: Window,
+        background: &[u8],
+        target: &mut [u8],
+        map: &mut [u8],
+    ) -> Result<u64, Failure> {
+        if !self.plane.is_met(part)? {
+            return Ok(0);
+        }
+        let question = self.plane.plain(part, self.pixel_type, background);
+        let answer = calls::compose_quick(self.plane.file, &question, target, map);
+        Ok(answer.result()?.covered)
+    }
+
     /// Parts are taken in order and each that is taken is finished, so which
     /// failure is the first does not depend on the jobs.
-    fn fail(&self, number: u64, failure: Failure) {
+    fn fail(&self, taken: usize, failure: Failure) {
         self.stop.store(true, SeqCst);
         if let Ok(mut failed) = self.failed.lock() {
-            if failed.as_ref().is_none_or(|(other, _)| number < *other) {
-                *failed = Some((number, failure));
+            if failed.as_ref().is_none_or(|(other, _)| taken < *other) {
+                *failed = Some((taken, failure));
             }
         }
     }

@@ -1,5 +1,6 @@
 //! Why a command did not do what it was asked.
 
+use crate::words::one_line;
 use std::fmt;
 use std::path::Path;
 
@@ -25,9 +26,7 @@ impl Failure {
 
     /// The one line that is said, whatever characters a name has.
     pub fn line(&self) -> String {
-        let text = self.to_string();
-        let shown = text.chars().map(|c| if c.is_control() { '?' } else { c });
-        format!("czi: {}\n", shown.collect::<String>())
+        format!("czi: {}\n", one_line(&self.to_string()))
     }
 
     /// Something is wrong with that file.

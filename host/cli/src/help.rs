@@ -59,7 +59,11 @@ Prints, of a file of any size:
   letter= tiles= least= greatest=
                               for each letter but X and Y: how many tiles have
                               it, and the range of its starts
-  attachment= bytes=          for each attachment: its number and size
+  attachment= bytes= type= guid= name=
+                              for each attachment: its number, the size of its
+                              data, its file type, content GUID and name, the
+                              last up to the line's end; a control character is
+                              printed as ?
 With --json the same as one object. Exits 2 where the file is refused.
 ";
 
@@ -118,7 +122,7 @@ const QUESTION: &str =
                      bgra32 (9), graycomplex (10), bgrcomplex (11), in any case.
                      Unless given that of the selected tiles that meet the
                      window, or of the first tile where none does; two types
-                     among them are refused as 23
+                     among them are refused as 23, and both are named
   --start C=1        tiles that start at 1 along C, for any letter but X, Y and
                      M; 0 unless given; may be given once for each letter
   --scene any|N      all scenes, or the one that starts at N; the same as
@@ -139,8 +143,10 @@ Prints how many pixels of a window are covered by a tile; no file is written.
 
 The window may have any sides here. It is cut into windows of at most 65,536 a
 side, so that all jobs together take at most 512 MiB, and their counts are added.
+Those that no selected tile meets have no covered pixel and are not composed.
 Prints covered=, pixels= (of the whole window), windows= (into how many it was
-cut), and a line with what was chosen: tiles= (of the file), masks=, scene=, the
+cut), and a line with what was chosen: tiles= (of the file), selected= (of these),
+meet= (of these, how many share a pixel with the window), masks=, scene=, the
 starts that are not 0, type=, window=. A file without a box covers nothing. A run
 of more than a second shows how far it is where standard error is a terminal.
 ";
@@ -165,10 +171,11 @@ Composes a window of the plane; its sides are 1 to 65,536.
 One of --out and --map may be - for standard output; the lines that follow go to
 standard error then. Without either, nothing is written but these lines:
 pixels=, covered=, stored= (how many pixels were stored from tiles), and a line
-with what was chosen: tiles= (of the file), masks=, scene=, the starts that are
-not 0, type=, window=. The plane is composed by windows of whole rows, so that at
-most 512 MiB are taken; what goes to standard output is held in memory until all
-of it is there.
+with what was chosen: tiles= (of the file), selected= (of these), meet= (of these,
+how many share a pixel with the window), masks=, scene=, the starts that are not
+0, type=, window=. The plane is composed by windows of whole rows, so that at most
+512 MiB are taken; what goes to standard output is held in memory until all of it
+is there.
 ";
 
 /// The text about a command, or about all for none.

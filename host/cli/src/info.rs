@@ -4,9 +4,10 @@ use crate::answer::Answer;
 use crate::arguments::{Arguments, Takes};
 use crate::failure::Failure;
 use crate::input::Input;
-use crate::records::{self, Record};
+use crate::records::starts;
 use crate::types;
-use czi::{Edges, Summary};
+use crate::words::{one_line, quoted};
+use czi::{Attachment, Edges, Record, Summary};
 use std::collections::BTreeMap;
 use std::ffi::OsString;
 
@@ -51,14 +52,13 @@ struct Info {
     scenes: BTreeMap<i32, Scene>,
     /// Of each letter but X and Y.
     letters: BTreeMap<char, Range>,
-    /// How many bytes each attachment has.
-    attachments: Vec<usize>,
+    attachments: Vec<Attachment>,
 }
 
 impl Info {
     fn of(file: &[u8]) -> Result<Info, Failure> {
         let summary = czi::summary(file)?;
-        let all = records::all(file, summary.tiles)?;
+        let all: Vec<Record> = czi::all_records(file)?.collect();
         let pyramid = |record: &&Record| record.tile.is_pyramid_tile();
         Ok(Info {
             types: types_of(&all),
@@ -66,7 +66,7 @@ impl Info {
             masked_tiles: all.iter().filter(|r| r.tile.mask.is_some()).count(),
             scenes: scenes_of(&all),
             letters: letters_of(&all),
-            attachments: records::attachments(file, summary.attachments)?,
+            attachments: czi::attachments(file)?,
             summary,
         })
     }
@@ -99,13 +99,20 @@ impl Info {
             } = range;
             lines += &format!("letter={letter} tiles={tiles} least={least} greatest={greatest}\n");
         }
-        for (number, bytes) in self.attachments.iter().enumerate() {
-            lines += &format!("attachment={number} bytes={bytes}\n");
+        for attachment in &self.attachments {
+            lines += &format!(
+                "attachment={} bytes={} type={} guid={} name={}\n",
+                attachment.entry,
+                attachment.data.len(),
+                one_line(&attachment.file_type_text()),
+                attachment.guid_text(),
+                one_line(&attachment.name_text()),
+            );
         }
         lines
     }
 
-    /// The same; names and letters need no escapes.
+    /// The same; names of types, letters and GUIDs need no escapes.
     fn json(&self) -> String {
         let types = self.types.iter();
         let types = types.map(|(name, tiles)| format!("{{\"type\":\"{name}\",\"tiles\":{tiles}}}"));
@@ -123,9 +130,16 @@ impl Info {
                 "{{\"letter\":\"{letter}\",\"tiles\":{tiles},\"least\":{least},\"greatest\":{greatest}}}"
             )
         });
-        let attachments = self.attachments.iter().enumerate();
-        let attachments = attachments
-            .map(|(number, bytes)| format!("{{\"attachment\":{number},\"bytes\":{bytes}}}"));
+        let attachments = self.attachments.iter().map(|attachment| {
+            format!(
+                "{{\"attachment\":{},\"bytes\":{},\"type\":{},\"guid\":\"{}\",\"name\":{}}}",
+                attachment.entry,
+                attachment.data.len(),
+                quoted(&attachment.file_type_text()),
+                attachment.guid_text(),
+                quoted(&attachment.name_text()),
+            )
+        });
         let Summary {
             bytes,
             segments,
@@ -184,8 +198,8 @@ fn types_of(all: &[Record]) -> Vec<(&'static str, u64)> {
 }
 
 fn scene_of(record: &Record) -> Option<i32> {
-    let found = record.starts.iter().find(|(letter, _)| *letter == 'S');
-    found.map(|(_, start)| *start)
+    let found = starts(record).find(|(letter, _)| *letter == 'S');
+    found.map(|(_, start)| start)
 }
 
 /// A tile without S counts to scene 0, as it is selected there.
@@ -229,7 +243,7 @@ fn letters_of(all: &[Record]) -> BTreeMap<char, Range> {
     let mut letters: BTreeMap<char, Range> = BTreeMap::new();
     for record in all {
         let m = record.tile.m.map(|start| ('M', start));
-        for (letter, start) in record.starts.iter().copied().chain(m) {
+        for (letter, start) in starts(record).chain(m) {
             let range = letters.entry(letter).or_insert(Range {
                 least: start,
                 greatest: start,

@@ -33,6 +33,7 @@ mod system;
 mod tiles;
 mod types;
 mod window;
+mod words;
 
 use answer::Answer;
 use arguments::{Arguments, Takes};

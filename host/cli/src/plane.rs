@@ -2,15 +2,14 @@
 
 use crate::failure::Failure;
 use crate::question::Question;
-use crate::records;
 use crate::refused::{explain, Asked};
 use crate::types;
 use crate::window::Window;
-use czi::calls::{self, Plain};
-use czi::{PixelType, Reason, Summary};
+use czi::calls::{self, ChosenCounts, Plain};
+use czi::{PixelType, Reason, Refusal, Summary, Tile};
 
-/// The number of the refusal for buffers that are too short.
-const TOO_SHORT: u32 = 22;
+/// The mark of a selected tile that shares a pixel with the window.
+const MEETS: u8 = 2;
 
 /// A file and what is asked of it.
 pub struct Plane<'a> {
@@ -22,6 +21,10 @@ pub struct Plane<'a> {
     pub summary: Summary,
     /// The window; nothing where none is given and the file has no box.
     pub window: Option<Window>,
+    /// A mark for each tile, as the library gives it for that window.
+    marks: Vec<u8>,
+    /// How many tiles are selected, and how many of them meet the window.
+    chosen: ChosenCounts,
     /// The longest side that is allowed.
     side: u32,
 }
@@ -31,24 +34,25 @@ impl<'a> Plane<'a> {
     pub fn new(file: &'a [u8], question: &'a Question, is_cut: bool) -> Result<Self, Failure> {
         let summary = czi::summary(file)?;
         let window = question.window.or(summary.edges.as_ref().map(Window::of));
+        let mut marks = vec![0; summary.tiles as usize];
+        // Without a window: one that no tile meets.
+        let asked = question.plain(window.unwrap_or_default(), 0, &[]);
+        let chosen = calls::chosen(file, &asked, &mut marks).result()?;
         Ok(Plane {
             file,
             question,
             summary,
             window,
+            marks,
+            chosen,
             side: if is_cut { u32::MAX } else { 65_536 },
         })
     }
 
-    /// The background for that type: as given, or zeros. While the type is not
-    /// known, one that does not fit is left aside, since 21 goes before 23.
+    /// The background for that type: as given, or zeros.
     pub fn background(&self, pixel_type: u32) -> Vec<u8> {
-        let bytes = types::bytes(pixel_type);
-        let known = self.question.pixel_type.is_some();
-        match &self.question.background {
-            Some(given) if known || given.len() == bytes => given.clone(),
-            _ => vec![0; bytes],
-        }
+        let zeros = || vec![0; types::bytes(pixel_type)];
+        self.question.background.clone().unwrap_or_else(zeros)
     }
 
     /// The question to the library, for a part of the window.
@@ -56,100 +60,66 @@ impl<'a> Plane<'a> {
         self.question.plain(part, pixel_type, background)
     }
 
-    /// What is refused whatever is lent is refused before memory is taken: 20
-    /// and 21 go before 22, which is given where nothing is lent.
-    fn refuse_early(
-        &self,
-        window: Window,
-        pixel_type: u32,
-        background: &[u8],
-    ) -> Result<(), Failure> {
+    /// Does a selected tile share a pixel with that part? Where none does, it has
+    /// no covered pixel.
+    pub fn is_met(&self, part: Window) -> Result<bool, Failure> {
+        let mut marks = vec![0; self.marks.len()];
+        let asked = self.plain(part, 0, &[]);
+        let chosen = calls::chosen(self.file, &asked, &mut marks).result()?;
+        Ok(chosen.meeting != 0)
+    }
+
+    /// The type that is asked for, or that of the tiles that meet the window. What
+    /// is refused whatever is lent is refused here.
+    pub fn pixel_type(&self, window: Window) -> Result<u32, Failure> {
+        if let Some(given) = self.question.pixel_type {
+            self.refuse_early(window, given)?;
+            return Ok(given);
+        }
+        let tiles: Vec<Tile> = czi::tiles(self.file)?.collect();
+        let marked = tiles.iter().zip(&self.marks);
+        let meeting = marked.filter(|(_, mark)| **mark == MEETS);
+        let mut meeting = meeting.map(|(tile, _)| tile);
+        // Where none meets the window the type makes no difference.
+        let one = meeting.next().or(tiles.first());
+        let pixel_type = one.map_or(PixelType::Gray8, |tile| tile.pixel_type);
+        self.refuse_early(window, pixel_type.number())?;
+        match (one, meeting.find(|tile| tile.pixel_type != pixel_type)) {
+            (Some(one), Some(other)) => Err(two_types(one, other)),
+            _ => Ok(pixel_type.number()),
+        }
+    }
+
+    /// 20 and 21, before memory is taken: they go before 22, which is given where
+    /// nothing is lent.
+    fn refuse_early(&self, window: Window, pixel_type: u32) -> Result<(), Failure> {
         let ends = match self.side {
             u32::MAX => window.ends(),
             _ => [window; 2],
         };
+        let background = self.background(pixel_type);
         for part in ends {
-            let question = self.plain(part, pixel_type, background);
+            let question = self.plain(part, pixel_type, &background);
             let answer = calls::compose_quick(self.file, &question, &mut [], &mut []);
-            if answer.number != TOO_SHORT {
-                answer.result()?;
+            match answer.result() {
+                Err(refusal) if refusal.reason != Reason::Lent => {
+                    return Err(self.explained(window, pixel_type, refusal.into()));
+                }
+                _ => {}
             }
         }
         Ok(())
     }
 
-    /// Does the work with the type that is asked for, or with that of the tiles.
-    /// Answers what it gave, and the type.
-    ///
-    /// No rule is written here: the library refuses 23 where a selected tile
-    /// that meets the window has another type than the question. So the first
-    /// tile's type is tried, and then that of the tile that 23 names; if that is
-    /// refused too, there are two.
-    pub fn with_type<T>(
-        &self,
-        window: Window,
-        mut work: impl FnMut(u32) -> Result<T, Failure>,
-    ) -> Result<(T, u32), Failure> {
-        let mut attempt = |pixel_type: u32| {
-            self.refuse_early(window, pixel_type, &self.background(pixel_type))?;
-            let answer = work(pixel_type)?;
-            // By now the type is known.
-            let given = self.question.background.as_deref();
-            match given.filter(|given| given.len() != types::bytes(pixel_type)) {
-                Some(given) => self.refuse_early(window, pixel_type, given)?,
-                None => {}
-            }
-            Ok((answer, pixel_type))
-        };
-        let told = |pixel_type, failure| self.explained(window, pixel_type, failure);
-        if let Some(given) = self.question.pixel_type {
-            return attempt(given).map_err(|failure| told(given, failure));
-        }
-        let first = match self.summary.tiles {
-            // Nothing is selected, whatever the type.
-            0 => PixelType::Gray8,
-            _ => czi::tile(self.file, 0)?.pixel_type,
-        };
-        let first = first.number();
-        let failure = match attempt(first) {
-            Err(failure) => failure,
-            done => return done,
-        };
-        let Some(one) = self.tile_of(&failure)? else {
-            return Err(told(first, failure));
-        };
-        let second = one.pixel_type.number();
-        let failure = match attempt(second) {
-            Err(failure) => failure,
-            done => return done,
-        };
-        match self.tile_of(&failure)? {
-            Some(other) => Err(two_types(&one, &other, failure)),
-            None => Err(told(second, failure)),
-        }
-    }
-
-    /// The tile that a 23 names.
-    fn tile_of(&self, failure: &Failure) -> Result<Option<czi::Tile>, Failure> {
-        match failure {
-            Failure::Refused(refusal, _) if refusal.reason == Reason::AnotherType => {
-                records::at(self.file, self.summary.tiles, refusal.place).map(Some)
-            }
-            _ => Ok(None),
-        }
-    }
-
-    fn explained(&self, window: Window, pixel_type: u32, failure: Failure) -> Failure {
+    /// A refusal with what it is about.
+    pub fn explained(&self, window: Window, pixel_type: u32, failure: Failure) -> Failure {
         let asked = Asked {
             window,
             side: self.side,
             pixel_type,
-            background: match &self.question.background {
-                Some(given) => given.len(),
-                None => types::bytes(pixel_type),
-            },
+            background: self.background(pixel_type).len(),
         };
-        explain(self.file, self.summary.tiles, &asked, failure)
+        explain(self.file, &asked, failure)
     }
 
     /// The line that says what was chosen.
@@ -158,16 +128,21 @@ impl<'a> Plane<'a> {
         let named = listed.map_or("none", types::name);
         let window = self.window.map_or("none".to_string(), |w| w.to_string());
         let (tiles, question) = (self.summary.tiles, self.question);
-        format!("tiles={tiles} {question} type={named} window={window}\n")
+        let ChosenCounts { selected, meeting } = self.chosen;
+        format!(
+            "tiles={tiles} selected={selected} meet={meeting} {question} type={named} window={window}\n"
+        )
     }
 }
 
-fn two_types(one: &czi::Tile, other: &czi::Tile, failure: Failure) -> Failure {
-    let said =
-        |tile: &czi::Tile| format!("tile {} has {}", tile.entry, types::name(tile.pixel_type));
+/// Two tiles that meet the window, the first and another of another type: asked
+/// for the first one's, the library refuses the other.
+fn two_types(one: &Tile, other: &Tile) -> Failure {
+    let said = |tile: &Tile| format!("tile {} has {}", tile.entry, types::name(tile.pixel_type));
     let both = format!("{}, {}", said(one), said(other));
-    match failure {
-        Failure::Refused(refusal, _) => Failure::Refused(refusal, Some(both)),
-        other => other,
-    }
+    let refusal = Refusal {
+        reason: Reason::AnotherType,
+        place: other.place,
+    };
+    Failure::Refused(refusal, Some(both))
 }

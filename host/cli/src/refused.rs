@@ -21,7 +21,7 @@ pub struct Asked {
 }
 
 /// Adds to a refusal of 20 to 23 what it is about.
-pub fn explain(file: &[u8], tiles: u64, asked: &Asked, failure: Failure) -> Failure {
+pub fn explain(file: &[u8], asked: &Asked, failure: Failure) -> Failure {
     let Failure::Refused(refusal, None) = failure else {
         return failure;
     };
@@ -29,7 +29,7 @@ pub fn explain(file: &[u8], tiles: u64, asked: &Asked, failure: Failure) -> Fail
         Reason::Window => window(asked),
         Reason::AskedType => pixel(asked),
         Reason::Lent => Some("the command lent too little".to_string()),
-        Reason::AnotherType => tile(file, tiles, asked, &refusal),
+        Reason::AnotherType => tile(file, asked, &refusal),
         _ => None,
     };
     Failure::Refused(refusal, more)
@@ -65,8 +65,8 @@ fn pixel(asked: &Asked) -> Option<String> {
     ))
 }
 
-fn tile(file: &[u8], tiles: u64, asked: &Asked, refusal: &Refusal) -> Option<String> {
-    let tile = records::at(file, tiles, refusal.place).ok()?;
+fn tile(file: &[u8], asked: &Asked, refusal: &Refusal) -> Option<String> {
+    let tile = records::at(file, refusal.place)?;
     let name = PixelType::of_number(asked.pixel_type.into()).map(types::name)?;
     let (entry, has) = (tile.entry, types::name(tile.pixel_type));
     Some(format!("tile {entry} has {has}, asked for is {name}"))
@@ -83,7 +83,7 @@ mod tests {
             pixel_type,
             background,
         };
-        explain(&[], 0, &asked, Refusal::new(number, 0).into()).to_string()
+        explain(&[], &asked, Refusal::new(number, 0).into()).to_string()
     }
 
     #[test]

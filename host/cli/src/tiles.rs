@@ -4,8 +4,9 @@ use crate::answer::Answer;
 use crate::arguments::{Arguments, Takes};
 use crate::failure::Failure;
 use crate::input::Input;
-use crate::records::{self, Record};
+use crate::records::starts;
 use crate::types;
+use czi::Record;
 use std::ffi::OsString;
 
 const TAKES: Takes = Takes {
@@ -18,7 +19,7 @@ const TAKES: Takes = Takes {
 pub fn run(words: Vec<OsString>) -> Result<Answer, Failure> {
     let arguments = Arguments::parse(words, &TAKES)?;
     let input = Input::open(&arguments.only_path("FILE")?)?;
-    let all = input.reading(|file| records::all(file, czi::summary(file)?.tiles))?;
+    let all: Vec<Record> = input.reading(|file| Ok(czi::all_records(file)?.collect()))?;
     let lines = match arguments.flag("--json") {
         false => all.iter().map(line).collect(),
         true => {
@@ -32,8 +33,7 @@ pub fn run(words: Vec<OsString>) -> Result<Answer, Failure> {
 fn line(record: &Record) -> String {
     let tile = &record.tile;
     let m = tile.m.map_or("none".to_string(), |m| m.to_string());
-    let starts = record.starts.iter();
-    let starts: String = starts.map(|(l, start)| format!(" {l}={start}")).collect();
+    let starts: String = starts(record).map(|(l, s)| format!(" {l}={s}")).collect();
     let pyramid = if tile.is_pyramid_tile() { "yes" } else { "no" };
     let mask = match &tile.mask {
         None => "none".to_string(),
@@ -54,8 +54,9 @@ fn line(record: &Record) -> String {
 fn object(record: &Record) -> String {
     let tile = &record.tile;
     let m = tile.m.map_or("null".to_string(), |m| m.to_string());
-    let starts = record.starts.iter();
-    let starts: Vec<String> = starts.map(|(l, s)| format!("\"{l}\":{s}")).collect();
+    let starts: Vec<String> = starts(record)
+        .map(|(l, s)| format!("\"{l}\":{s}"))
+        .collect();
     let mask = match &tile.mask {
         None => "null".to_string(),
         Some(mask) => format!("{{\"width\":{},\"height\":{}}}", mask.width, mask.height),

@@ -1,12 +1,13 @@
 //! Windows of the plane, and a window cut by straight lines into smaller ones.
 
 use std::fmt;
+use std::ops::Range;
 
 /// The longest side that the library composes.
 const SIDE: u32 = 65_536;
 
 /// A window: left and top, width and height, any numbers.
-#[derive(Clone, Copy, Debug, PartialEq, Eq)]
+#[derive(Clone, Copy, Debug, Default, PartialEq, Eq)]
 pub struct Window {
     /// The left column.
     pub left: i32,
@@ -113,28 +114,99 @@ impl Cut {
         self.whole.width.div_ceil(self.width).into()
     }
 
+    fn rows_of_parts(&self) -> u64 {
+        self.whole.height.div_ceil(self.height).into()
+    }
+
     /// How many parts there are.
     pub fn parts(&self) -> u64 {
-        self.columns() * u64::from(self.whole.height.div_ceil(self.height))
+        self.columns() * self.rows_of_parts()
     }
 
     /// The part of that number, row by row.
     pub fn part(&self, number: u64) -> Window {
-        let side = |start: i32, all: u32, size: u32, k: u64| {
-            let before = k * u64::from(size);
-            let rest = u64::from(all) - before;
-            let first = (i64::from(start) + before as i64) as i32;
-            (first, rest.min(size.into()) as u32)
-        };
         let (column, row) = (number % self.columns(), number / self.columns());
-        let (left, width) = side(self.whole.left, self.whole.width, self.width, column);
-        let (top, height) = side(self.whole.top, self.whole.height, self.height, row);
+        self.window(&Block {
+            columns: column..column + 1,
+            rows: row..row + 1,
+        })
+    }
+
+    /// The window that a block of parts makes up.
+    fn window(&self, block: &Block) -> Window {
+        let side = |start: i32, all: u32, size: u32, parts: &Range<u64>| {
+            let before = parts.start * u64::from(size);
+            let end = (parts.end * u64::from(size)).min(all.into());
+            let first = (i64::from(start) + before as i64) as i32;
+            (first, (end - before) as u32)
+        };
+        let Window { left, top, .. } = self.whole;
+        let (left, width) = side(left, self.whole.width, self.width, &block.columns);
+        let (top, height) = side(top, self.whole.height, self.height, &block.rows);
         Window {
             left,
             top,
             width,
             height,
         }
+    }
+
+    /// The numbers of parts, in order, that may be met. A block of parts of which
+    /// none is met is not met itself and is left out whole, so that a window that is
+    /// empty for the most part takes few questions; a block of at most so many parts
+    /// is not looked into.
+    pub fn may_be_met<E>(
+        &self,
+        few: u64,
+        mut is_met: impl FnMut(Window) -> Result<bool, E>,
+    ) -> Result<Vec<u64>, E> {
+        let mut numbers = Vec::new();
+        let mut blocks = vec![Block {
+            columns: 0..self.columns(),
+            rows: 0..self.rows_of_parts(),
+        }];
+        while let Some(block) = blocks.pop() {
+            if !is_met(self.window(&block))? {
+                continue;
+            }
+            match block.halves(few) {
+                Some([first, second]) => blocks.extend([second, first]),
+                None => numbers.extend(block.rows.flat_map(|row| {
+                    let first = row * self.columns();
+                    first + block.columns.start..first + block.columns.end
+                })),
+            }
+        }
+        Ok(numbers)
+    }
+}
+
+/// A block of parts: of whole rows, or of one row.
+struct Block {
+    columns: Range<u64>,
+    rows: Range<u64>,
+}
+
+impl Block {
+    /// Its halves, or nothing where it has at most so many parts, or one.
+    fn halves(&self, few: u64) -> Option<[Block; 2]> {
+        let (columns, rows) = (self.columns.clone(), self.rows.clone());
+        let (wide, high) = (columns.end - columns.start, rows.end - rows.start);
+        if wide * high <= few.max(1) {
+            return None;
+        }
+        let (column, row) = (columns.start + wide / 2, rows.start + high / 2);
+        let block = |columns, rows| Block { columns, rows };
+        Some(match high {
+            1 => [
+                block(columns.start..column, rows.clone()),
+                block(column..columns.end, rows),
+            ],
+            _ => [
+                block(columns.clone(), rows.start..row),
+                block(columns, row..rows.end),
+            ],
+        })
     }
 }
 
@@ -198,6 +270,44 @@ mod tests {
         );
         assert!(cut.width <= SIDE && cut.height <= SIDE);
         assert_eq!(cut.part(0).left, i32::MIN);
+    }
+
+    /// The parts that hold one of some pixels are found, in order, and with few
+    /// questions.
+    #[test]
+    fn parts_that_may_be_met() {
+        let whole = window(-7, 5, 2300, 1700);
+        let cut = Cut::new(whole, 100);
+        let pixels = [
+            (-7, 5),
+            (-6, 5),
+            (0, 900),
+            (2292, 5),
+            (2292, 1704),
+            (1000, 6),
+        ];
+        let is_met = |part: Window| {
+            let columns = i64::from(part.left)..part.right();
+            let rows = i64::from(part.top)..part.bottom();
+            let mut pixels = pixels.iter();
+            pixels.any(|(x, y)| columns.contains(x) && rows.contains(y))
+        };
+        let met: Vec<u64> = (0..cut.parts()).filter(|k| is_met(cut.part(*k))).collect();
+        assert!(met.len() >= 5 && cut.parts() > 10_000);
+        for few in [0, 1, 2, 8, 100, u64::MAX] {
+            let mut asked = 0;
+            let found = cut.may_be_met(few, |part| {
+                asked += 1;
+                Ok::<bool, ()>(is_met(part))
+            });
+            let found = found.unwrap();
+            assert!(found.is_sorted() && met.iter().all(|k| found.contains(k)));
+            assert!(few > 1 || found == met, "{found:?}");
+            assert!(found.len() as u64 <= few.max(1).saturating_mul(met.len() as u64));
+            assert!(asked <= 2 * 16 * met.len(), "{asked} questions");
+        }
+        assert_eq!(cut.may_be_met(1, |_| Err(3)), Err(3));
+        assert_eq!(cut.may_be_met(1, |_| Ok::<bool, ()>(false)), Ok(vec![]));
     }
 
     #[test]

@@ -46,6 +46,25 @@ fn a_line_a_tile() {
     );
 }
 
+/// No file has more tiles, and each is there.
+#[test]
+fn every_tile_of_the_largest_file() {
+    let folder = Folder::new("largest");
+    let tiles: Vec<Tile> = (0..4097).map(|k| gray8(k, 0, 1, 1)).collect();
+    let file = folder.write("largest.czi", &mosaic(&tiles[..4096]));
+    let lines = prints(&["tiles", &file]);
+    for (k, line) in lines.lines().enumerate() {
+        assert!(line.starts_with(&format!("tile={k} type=gray8 x={k} y=0 ")));
+    }
+    assert_eq!(lines.matches(" S=0 pyramid=no mask=none\n").count(), 4096);
+    let counted = prints(&["count", &file]);
+    assert!(counted.starts_with("covered=4096\npixels=4096\n"));
+    assert!(counted.contains("tiles=4096 selected=4096 meet=4096 "));
+    assert!(prints(&["info", &file]).contains("letter=S tiles=4096 "));
+    let more = folder.write("more.czi", &mosaic(&tiles));
+    fails(&["tiles", &more], 2, "refused 10 at ");
+}
+
 #[test]
 fn figures_that_explain_a_count() {
     let folder = Folder::new("info");
@@ -76,14 +95,47 @@ fn figures_that_explain_a_count() {
     let none = prints(&["info", &sample("pyramids.czi")]);
     assert!(none.contains("box=none\npyramid_tiles=2\nmasked_tiles=0\ntype=gray8 tiles=2\n"));
     let json = prints(&["info", &sample("mosaic.czi"), "--json"]);
-    assert!(json.ends_with("\"attachments\":[{\"attachment\":0,\"bytes\":40}]}\n"));
+    let attachment = "{\"attachment\":0,\"bytes\":40,\"type\":\"CZTIMS\",\
+                      \"guid\":\"{13121110-1514-1716-1819-1A1B1C1D1E1F}\",\"name\":\"TimeStamps\"}";
+    let ending = format!("\"attachments\":[{attachment}]}}\n");
+    assert!(json.ends_with(&ending), "{json}");
+}
+
+/// An attachment may be called anything: its name ends no line and no string.
+#[test]
+fn names_of_attachments_are_printed_on_their_line() {
+    let folder = Folder::new("names");
+    let mut bytes = fs::read(sample("mosaic.czi")).unwrap();
+    let entry = bytes.windows(2).position(|two| two == b"A1").unwrap();
+    let copy = entry
+        + 1
+        + bytes[entry + 1..]
+            .windows(2)
+            .position(|two| two == b"A1")
+            .unwrap();
+    for place in [entry, copy] {
+        bytes[place + 40..place + 48].copy_from_slice(b"a\"b\\\nc\x7Fd");
+        bytes[place + 48..place + 56].copy_from_slice(b"x\xFFy \xC3\xA9\0z");
+    }
+    let file = folder.write("a.czi", &bytes);
+    let guid = "{13121110-1514-1716-1819-1A1B1C1D1E1F}";
+    let line =
+        format!("attachment=0 bytes=40 type=a\"b\\?c?d guid={guid} name=x\u{FFFD}y \u{E9}\n");
+    let lines = prints(&["info", &file]);
+    assert!(lines.ends_with(&line), "{lines}");
+    let object = format!(
+        "\"type\":\"a\\\"b\\\\\\u000ac\\u007fd\",\"guid\":\"{guid}\",\"name\":\"x\u{FFFD}y \u{E9}\"}}]}}\n"
+    );
+    let json = prints(&["info", &file, "--json"]);
+    assert!(json.ends_with(&object), "{json}");
 }
 
 #[test]
 fn a_count_is_that_of_the_composer() {
     let file = sample("mosaic.czi");
-    let chosen =
-        |masks: &str| format!("tiles=4 masks={masks} scene=0 type=gray8 window=100,60,43,28\n");
+    let chosen = |masks: &str| {
+        format!("tiles=4 selected=4 meet=4 masks={masks} scene=0 type=gray8 window=100,60,43,28\n")
+    };
     let counted = prints(&["count", &file]);
     let wanted = format!("covered=1174\npixels=1204\nwindows=1\n{}", chosen("off"));
     assert_eq!(counted, wanted);
@@ -100,7 +152,8 @@ fn a_count_is_that_of_the_composer() {
         "--start",
         "C=0",
     ]);
-    let chosen = "tiles=4 masks=off scene=any Z=-4 type=gray8 window=100,60,43,28\n";
+    let chosen =
+        "tiles=4 selected=0 meet=0 masks=off scene=any Z=-4 type=gray8 window=100,60,43,28\n";
     assert!(
         counted.starts_with("covered=0\n") && counted.ends_with(chosen),
         "{counted}"
@@ -127,6 +180,55 @@ fn counts_of_parts_add_up() {
     for jobs in ["0", "1025", "-1", "x", ""] {
         fails(&["count", &file, "--jobs", jobs], 1, "--jobs");
     }
+}
+
+/// What is selected and what meets the window is said, so that a forgotten scene is
+/// seen.
+#[test]
+fn what_is_selected_and_what_meets_the_window() {
+    let folder = Folder::new("selected");
+    let scene = |scene| Tile {
+        scene,
+        ..gray8(100 * scene, 0, 10, 10)
+    };
+    let tiles = [scene(0), scene(1), gray8(30, 0, 5, 5), scene(1)];
+    let file = folder.write("a.czi", &mosaic(&tiles));
+    for (more, counts) in [
+        (&[][..], "selected=2 meet=2"),
+        (&["--scene", "1"], "selected=2 meet=2"),
+        (&["--scene", "any"], "selected=4 meet=4"),
+        (&["--scene", "2"], "selected=0 meet=0"),
+        (&["--window", "9,9,1,1"], "selected=2 meet=1"),
+        (&["--window", "10,0,20,9"], "selected=2 meet=0"),
+        (
+            &["--window", "29,4,2,1", "--scene=any"],
+            "selected=4 meet=1",
+        ),
+    ] {
+        for command in ["count", "compose"] {
+            let lines = prints(&[&[command, &file], more].concat());
+            let last = lines.lines().last().unwrap();
+            let wanted = format!("tiles=4 {counts} masks=off scene=");
+            assert!(last.starts_with(&wanted), "{more:?}: {last}");
+        }
+    }
+}
+
+/// Two tiles in the corners of the plane: the rest of it, some 2^64 pixels, is
+/// passed over.
+#[test]
+fn parts_that_no_tile_meets_are_passed_over() {
+    let folder = Folder::new("corners");
+    let far = i32::MAX - 10;
+    let tiles = [gray8(i32::MIN, i32::MIN, 5, 5), gray8(far, far, 10, 10)];
+    let file = folder.write("a.czi", &mosaic(&tiles));
+    let lines = prints(&["count", &file, "--jobs", "1024"]);
+    let (counts, chosen) = lines.split_once("windows=").unwrap();
+    assert_eq!(counts, "covered=125\npixels=18446744065119617025\n");
+    let (windows, chosen) = chosen.split_once('\n').unwrap();
+    assert!(windows.parse::<u64>().unwrap() > 1 << 32, "{windows}");
+    let window = "window=-2147483648,-2147483648,4294967295,4294967295\n";
+    assert!(chosen.starts_with("tiles=2 selected=2 meet=2 ") && chosen.ends_with(window));
 }
 
 #[test]
@@ -158,10 +260,10 @@ fn windows_that_are_refused_are_refused_by_the_library() {
 fn a_file_without_a_box_covers_nothing() {
     for (name, tiles) in [("smallest.czi", 0), ("pyramids.czi", 2)] {
         let wanted = "covered=0\npixels=0\nwindows=0\n";
-        let chosen = format!("tiles={tiles} masks=off scene=0 type=none window=none\n");
+        let chosen = "selected=0 meet=0 masks=off scene=0 type=none window=none";
         assert_eq!(
             prints(&["count", &sample(name)]),
-            format!("{wanted}{chosen}")
+            format!("{wanted}tiles={tiles} {chosen}\n")
         );
         fails(&["compose", &sample(name)], 1, "no box, so a --window");
     }
@@ -189,7 +291,7 @@ fn the_type_is_that_of_the_tiles_in_the_window() {
     }
     // The first window has no tile, the second has one of another type than tile 0.
     let lines = prints(&["count", &file]);
-    let chosen = "tiles=2 masks=off scene=0 type=gray16 window=0,0,6,70007\n";
+    let chosen = "tiles=2 selected=1 meet=1 masks=off scene=0 type=gray16 window=0,0,6,70007\n";
     assert_eq!(
         lines,
         format!("covered=42\npixels=420042\nwindows=2\n{chosen}")
@@ -214,7 +316,7 @@ fn two_types_are_refused_and_named() {
     let far = gray16(0, 70_000, 6, 7);
     let file = folder.write("two.czi", &mosaic(&[gray8(0, 0, 5, 5), far]));
     let words = "refused 23 at ";
-    let named = "(tile 1 has gray16, tile 0 has gray8)";
+    let named = "(tile 0 has gray8, tile 1 has gray16)";
     for jobs in ["1", "2", "7"] {
         fails(&["count", &file, "--jobs", jobs], 2, words);
         fails(&["count", &file, "--jobs", jobs], 2, named);
@@ -223,10 +325,14 @@ fn two_types_are_refused_and_named() {
     let farther = gray16(0, 140_000, 6, 7);
     let tiles = [gray8(0, 0, 5, 5), farther, far];
     let three = folder.write("three.czi", &mosaic(&tiles));
-    let named_first = "(tile 2 has gray16, tile 0 has gray8)";
+    fails(&["count", &three], 2, named);
+    let typed = ["count", &three, "--jobs", "3", "--type", "gray8"];
     for _ in 0..20 {
-        fails(&["count", &three, "--jobs", "3"], 2, named_first);
+        fails(&typed, 2, "(tile 2 has gray16, asked for is gray8)");
     }
+    // 20 and 21 go before 23.
+    fails(&["count", &three, "--window", "0,0,0,1"], 2, "refused 20 ");
+    fails(&["compose", &three], 2, "(the height is 140007)");
     let near = folder.write(
         "near.czi",
         &mosaic(&[gray8(0, 0, 5, 5), gray16(2, 2, 6, 7)]),

@@ -30,7 +30,8 @@ fn info_says_the_figures_of_a_file_of_any_size() {
     wanted += "letter=C tiles=4 least=0 greatest=0\n";
     wanted += "letter=M tiles=4 least=0 greatest=3\n";
     wanted += "letter=S tiles=4 least=0 greatest=0\n";
-    wanted += "attachment=0 bytes=40\n";
+    wanted += "attachment=0 bytes=40 type=CZTIMS ";
+    wanted += "guid={13121110-1514-1716-1819-1A1B1C1D1E1F} name=TimeStamps\n";
     assert_eq!(said(&czi(&["info", &sample("mosaic.czi")])).1, wanted);
 }
 
@@ -176,7 +177,8 @@ mod compose {
         let more = [&BOX[..], &["--masks", "on", "--composer", "both"]].concat();
         let wanted = "pixels=1204\ncovered=1138\nstored=1500 plain, 1138 quick\n\
                       both composers agree\n\
-                      tiles=4 masks=on scene=0 type=gray8 window=100,60,43,28\n";
+                      tiles=4 selected=4 meet=4 masks=on scene=0 type=gray8 \
+                      window=100,60,43,28\n";
         assert_eq!(run(&folder, &more), (0, wanted.to_string(), String::new()));
         assert_eq!(folder.names(), ["map.pbm", "plane.raw"]);
         assert_eq!(fs::read(folder.path("plane.raw")).unwrap().len(), 1204);

@@ -7,6 +7,7 @@
 
 #![deny(unsafe_code)]
 
+mod chosen;
 mod damages;
 mod lent;
 mod limits;
@@ -14,6 +15,7 @@ mod options;
 mod planes;
 mod reader;
 mod report;
+mod tables;
 mod types;
 mod zeros;
 

@@ -1,5 +1,6 @@
 //! Both composers: planes, maps, counts, refusals, and every lent byte.
 
+use crate::chosen;
 use crate::lent::Buffers;
 use crate::reader::answer;
 use crate::report::Report;
@@ -25,6 +26,7 @@ pub fn check(sound: &Sound, random: &mut Random, questions: u64, report: &mut Re
         check_drawn(sound, &file, &ask, random, report);
     }
     check_two_clauses(sound, &file, random, report);
+    chosen::check_any_window(sound, &file, random, report);
     for clause in ask_clauses() {
         // Some of them, so that all have their turn over the files.
         if random.percent(20) {
@@ -155,6 +157,10 @@ fn compose(
         report.differs("the reference changed a buffer and refused");
     }
     let plain = plain(ask, random);
+    let meeting = chosen::check(bytes, file, (question, &plain), random, report);
+    if let (Ok(counts), Some(0)) = (counts, meeting) {
+        report.compare("covered where no tile meets", &counts.covered, &0);
+    }
     let mut last = None;
     for quick in [false, true] {
         let mut got = lent.clone();
@@ -206,7 +212,7 @@ fn check_said(
 }
 
 /// The question as the header has it; of the numbers that mean the same, any.
-fn plain<'a>(ask: &'a Ask, random: &mut Random) -> Plain<'a> {
+pub fn plain<'a>(ask: &'a Ask, random: &mut Random) -> Plain<'a> {
     let question = &ask.question;
     Plain {
         starts: &question.starts,

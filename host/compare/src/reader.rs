@@ -1,10 +1,13 @@
 //! The reader: verdict, listing, figures, records and parts.
 
 use crate::report::Report;
-use czi::calls::{self, Answer, DimensionRecord, Figures, Span, Text, TileRecord, TEXT};
+use crate::tables;
+use czi::calls::{
+    self, Answer, AttachmentRecord, DimensionRecord, Figures, Span, Text, TileRecord, TEXT,
+};
 use generate::ask::{Request, REQUEST_CLAUSES};
 use generate::{Random, Sound};
-use reference::{judge, list, Dimension, File, Refusal, Summary, Tile, View};
+use reference::{judge, list, Attachment, Dimension, File, Refusal, Summary, Tile, View};
 
 /// Of a file with more entries, so many of the first are asked for, and the last.
 const MOST_ASKED: u64 = 24;
@@ -29,6 +32,7 @@ pub fn check(bytes: &[u8], report: &mut Report) -> Result<(), Refusal> {
     let got = calls::common_attachment(bytes);
     report.compare("common attachment", &got, &part(attached));
     report.calls += 5;
+    tables::check(bytes, &file, report);
 
     let (tiles, attachments) = file.as_ref().map_or((0, 0), |f| {
         (f.tiles.len() as u64, f.attachments.len() as u64)
@@ -41,6 +45,7 @@ pub fn check(bytes: &[u8], report: &mut Report) -> Result<(), Refusal> {
         check_tile(bytes, &file, entry, report);
     }
     for entry in asked(attachments, most) {
+        check_request(bytes, &file, Request::Attachment(entry), report);
         check_request(bytes, &file, Request::AttachmentData(entry), report);
     }
     report.check_unchanged(bytes);
@@ -109,6 +114,15 @@ fn check_request(
             let view = file.and_then(|f| f.tile_attachment(entry));
             viewed(view, calls::tile_attachment(bytes, entry), report)
         }
+        Request::Attachment(entry) => {
+            let attachment = file.and_then(|f| f.attachment(entry));
+            let mut got = LENT_ATTACHMENT;
+            let told = calls::attachment(bytes, entry, &mut got);
+            report.compare(&what(), &told, &part(attachment.map(|a| a.data)));
+            let wanted = attachment.map_or(LENT_ATTACHMENT, attachment_record);
+            report.compare(&what(), &got, &wanted);
+            attachment.err()
+        }
         Request::AttachmentData(entry) => {
             let view = file.and_then(|f| f.attachment_data(entry));
             viewed(view, calls::attachment_data(bytes, entry), report)
@@ -138,6 +152,12 @@ const NO_PART: Span = Span {
 const LENT_TILE: TileRecord = TileRecord {
     numbers: [0xC3C3_C3C3_C3C3_C3C3; calls::TILE_NUMBERS],
     starts: [0x3C3C_3C3C; calls::TILE_STARTS],
+};
+
+const LENT_ATTACHMENT: AttachmentRecord = AttachmentRecord {
+    guid: [0xC3; calls::ATTACHMENT_GUID],
+    file_type: [0x3C; calls::ATTACHMENT_FILE_TYPE],
+    name: [0x5A; calls::ATTACHMENT_NAME],
 };
 
 const NO_DIMENSION: DimensionRecord = DimensionRecord {
@@ -204,7 +224,8 @@ fn figures(summary: &Summary) -> Figures {
     }
 }
 
-fn record(tile: &Tile) -> TileRecord {
+/// The record as the header has it.
+pub fn record(tile: &Tile) -> TileRecord {
     let mask = tile.mask;
     let [place, width, height, stride] = mask.map_or([0; 4], |m| {
         [m.place, m.width.into(), m.height.into(), m.stride.into()]
@@ -238,7 +259,16 @@ fn record(tile: &Tile) -> TileRecord {
     }
 }
 
-fn dimension_record(d: &Dimension) -> DimensionRecord {
+fn attachment_record(attachment: &Attachment) -> AttachmentRecord {
+    AttachmentRecord {
+        guid: attachment.content_guid,
+        file_type: attachment.file_type,
+        name: attachment.name,
+    }
+}
+
+/// The record as the header has it.
+pub fn dimension_record(d: &Dimension) -> DimensionRecord {
     DimensionRecord {
         letter: d.letter.into(),
         start: d.start,

@@ -27,10 +27,35 @@ const OUTCOMES: [&str; 13] = [
     "a question to a file at a limit",
 ];
 
+/// The names of how arrays and marks are lent.
+const LENT: [&str; 10] = [
+    "arrays exactly long enough",
+    "arrays longer than needed",
+    "no arrays",
+    "numbers one too short",
+    "starts one too short",
+    "arrays for a refused file",
+    "marks exactly long enough",
+    "marks longer than needed",
+    "marks one too short",
+    "marks for a refused file",
+];
+
+/// The names of what is chosen.
+const CHOICES: [&str; 6] = [
+    "a selected tile meets the window",
+    "tiles are selected, and none meets the window",
+    "no tile is selected",
+    "a side of 0, and tiles are selected",
+    "a side over 65,536, and a tile meets the window",
+    "an edge above 2^31 - 1, and a tile meets the window",
+];
+
 /// Counts and differences.
 pub struct Report {
     seed: u64,
     asked: u64,
+    salts: u64,
     stage: String,
     /// Sound files, and those that were damaged in some way.
     pub sound: u64,
@@ -44,6 +69,10 @@ pub struct Report {
     pub calls: u64,
     /// Questions put to both composers.
     pub questions: u64,
+    /// Tables of all records.
+    pub tables: u64,
+    /// Questions for what is selected.
+    pub chosen: u64,
     /// Freedoms that sound files take.
     pub freedoms: Tally,
     /// Files at a limit.
@@ -52,6 +81,10 @@ pub struct Report {
     pub ask_freedoms: Tally,
     /// What came of questions.
     pub outcomes: Tally,
+    /// How arrays and marks are lent.
+    pub lent: Tally,
+    /// What is selected, and what meets the window.
+    pub choices: Tally,
     /// Clauses of the refusal table.
     pub clauses: Tally,
     differences: Vec<String>,
@@ -75,6 +108,7 @@ impl Report {
         Report {
             seed: 0,
             asked: 0,
+            salts: 0,
             stage: String::new(),
             sound: 0,
             damaged: 0,
@@ -82,10 +116,14 @@ impl Report {
             scrambled: 0,
             calls: 0,
             questions: 0,
+            tables: 0,
+            chosen: 0,
             freedoms: Tally::new("Files that take a freedom", freedoms()),
             limits: Tally::new("Files at a limit", LIMITS.iter().map(|l| l.name)),
             ask_freedoms: Tally::new("Questions that take a freedom", ask_freedoms()),
             outcomes: Tally::new("Questions by what came of them", OUTCOMES),
+            lent: Tally::new("Arrays and marks by how they are lent", LENT),
+            choices: Tally::new("Questions by what is chosen", CHOICES),
             clauses: Tally::new("Refusals by clause", all),
             differences: Vec::new(),
             untold: 0,
@@ -100,6 +138,14 @@ impl Report {
     pub fn begin(&mut self, seed: u64, questions: u64) {
         self.seed = seed;
         self.asked = questions;
+        self.salts = 0;
+    }
+
+    /// Another number for a pattern or a length; a seed has the same ones each time.
+    pub fn salt(&mut self) -> u64 {
+        self.salts += 1;
+        let word = self.seed.wrapping_mul(0x2545_F491_4F6C_DD1D) ^ self.salts;
+        word.wrapping_mul(0x9E37_79B9_7F4A_7C15) >> 20
     }
 
     /// What is compared from here on: its name, and the file.
@@ -165,12 +211,14 @@ impl Report {
         });
     }
 
-    fn tallies(&self) -> [&Tally; 5] {
+    fn tallies(&self) -> [&Tally; 7] {
         [
             &self.freedoms,
             &self.limits,
             &self.ask_freedoms,
             &self.outcomes,
+            &self.lent,
+            &self.choices,
             &self.clauses,
         ]
     }
@@ -200,8 +248,8 @@ impl fmt::Display for Report {
         )?;
         writeln!(
             f,
-            "{} questions to both composers, {} calls of the library in all",
-            self.questions, self.calls
+            "{} questions to both composers, {} for what is selected, {} tables of all records, {} calls of the library in all",
+            self.questions, self.chosen, self.tables, self.calls
         )?;
         for name in self.tallies().iter().flat_map(|t| t.missing()) {
             writeln!(f, "NOT REACHED: {name}")?;

@@ -37,6 +37,17 @@ extern "C" {
         start: *mut u64,
         length: *mut u64,
     ) -> u32;
+    pub fn czi_attachment(
+        file: *const u8,
+        file_len: usize,
+        entry: u64,
+        place: *mut u64,
+        guid: *mut u8,
+        file_type: *mut u8,
+        name: *mut u8,
+        start: *mut u64,
+        length: *mut u64,
+    ) -> u32;
     pub fn czi_common_xml(
         file: *const u8,
         file_len: usize,
@@ -59,6 +70,16 @@ extern "C" {
         numbers: *mut u64,
         starts: *mut i32,
     ) -> u32;
+    pub fn czi_tiles(
+        file: *const u8,
+        file_len: usize,
+        numbers: *mut u64,
+        numbers_len: usize,
+        starts: *mut i32,
+        starts_len: usize,
+        place: *mut u64,
+        tiles: *mut u64,
+    ) -> u32;
     pub fn czi_dimension(
         file: *const u8,
         file_len: usize,
@@ -70,6 +91,16 @@ extern "C" {
         size: *mut u64,
         coordinate_bits: *mut u32,
         stored: *mut u64,
+    ) -> u32;
+    pub fn czi_dimensions(
+        file: *const u8,
+        file_len: usize,
+        numbers: *mut u64,
+        numbers_len: usize,
+        starts: *mut i32,
+        starts_len: usize,
+        place: *mut u64,
+        dimensions: *mut u64,
     ) -> u32;
     pub fn czi_summary(
         file: *const u8,
@@ -129,5 +160,21 @@ extern "C" {
         place: *mut u64,
         covered: *mut u64,
         stored: *mut u64,
+    ) -> u32;
+    pub fn czi_chosen(
+        file: *const u8,
+        file_len: usize,
+        starts: *const i32,
+        starts_len: usize,
+        any_scene: u32,
+        left: i32,
+        top: i32,
+        width: u32,
+        height: u32,
+        marks: *mut u8,
+        marks_len: usize,
+        place: *mut u64,
+        selected: *mut u64,
+        meeting: *mut u64,
     ) -> u32;
 }

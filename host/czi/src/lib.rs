@@ -5,7 +5,8 @@
 //! has to be checked before a call, and no call changes a byte of the file or
 //! keeps anything. Each question judges the whole file first: what [`judge`]
 //! refuses, all of them refuse alike (but that [`list`] looks at the length
-//! before). A [`Refusal`] has a number of paper 01's table and a place.
+//! before); [`tiles`] and [`all_records`] give every record for one judgement or
+//! two. A [`Refusal`] has a number of paper 01's table and a place.
 //!
 //! ```
 //! # fn main() -> Result<(), Box<dyn std::error::Error>> {
@@ -15,6 +16,7 @@
 //! }
 //! let edges = czi::summary(&file)?.edges.ok_or("no tile has a place in a plane")?;
 //! let question = czi::Question::default().over(edges).masks(czi::Masks::On);
+//! assert_eq!(czi::chosen(&file, &question)?.meeting, 4);
 //! assert_eq!(czi::compose(&file, &question)?.covered, 1138);
 //! # Ok(())
 //! # }
@@ -25,7 +27,9 @@
 
 #![deny(unsafe_code)]
 
+mod attachments;
 pub mod calls;
+mod chosen;
 mod compose;
 #[allow(unsafe_code)]
 mod ffi;
@@ -41,7 +45,12 @@ mod tiles;
 /// `CZI_VERSION` of the header that this crate was written for.
 pub const VERSION: u32 = 1;
 
+/// No accepted file has more tiles; more are refused as 10.
+pub const MOST_TILES: usize = 4096;
+
+pub use attachments::{attachment, attachments, Attachment};
 pub use calls::Counted;
+pub use chosen::{chosen, Chosen, Mark};
 pub use compose::{compose_plain, compose_quick};
 pub use mapping::{map, map_file, read, Mapping};
 pub use pixel::PixelType;
@@ -53,4 +62,4 @@ pub use reader::{
 };
 pub use records::{Dimension, Edges, Extent, Mask, Summary, Tile};
 pub use refusal::{Reason, Refusal};
-pub use tiles::{dimensions, tiles, Tiles};
+pub use tiles::{all_records, dimensions, tiles, Record, Records, Tiles};

@@ -31,7 +31,7 @@ pub struct Mask {
 /// The record of a tile.
 #[derive(Clone, Debug, PartialEq, Eq)]
 pub struct Tile {
-    /// The number that was asked for.
+    /// The number of its entry, from 0.
     pub entry: u64,
     /// Where the entry stands.
     pub place: u64,

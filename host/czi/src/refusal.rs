@@ -29,7 +29,7 @@ macro_rules! reasons {
                 }
             }
 
-            /// The paper's words for it.
+            /// The paper's words for it, but that 22 names arrays too.
             pub fn words(self) -> &'static str {
                 match self {
                     $(Reason::$name => $words,)*
@@ -61,7 +61,7 @@ reasons! {
     Mask 18 "mask not as the rules say"
     Window 20 "window side not 1 to 65,536, or right or bottom edge above 2,147,483,647"
     AskedType 21 "asked type not listed, or background not one pixel long"
-    Lent 22 "target or map too short"
+    Lent 22 "target, map or array too short"
     AnotherType 23 "a selected tile that meets the window has another type"
     NoEntry 24 "no entry of that number, counted from 0"
     TooLong 30 "listing only: input over 65,536 bytes"

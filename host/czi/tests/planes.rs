@@ -1,7 +1,8 @@
 //! The mosaic composed through the wrapper.
 
 use czi::{
-    compose, compose_plain, compose_quick, Masks, NoPlane, PixelType, Question, Reason, Scene,
+    chosen, compose, compose_plain, compose_quick, Mark, Masks, NoPlane, PixelType, Question,
+    Reason, Scene,
 };
 use std::fs;
 use std::path::PathBuf;
@@ -120,4 +121,24 @@ fn a_plane_is_refused_before_memory_is_taken() {
     let gray16 = BOX.background(&[0]).pixel_type(PixelType::Gray16);
     assert_eq!(refused(gray16), Some(Reason::AnotherType));
     assert_eq!(refused(Question::default()), Some(Reason::Window));
+}
+
+#[test]
+fn tiles_are_marked_by_what_the_question_makes_of_them() {
+    let file = mosaic();
+    let all = chosen(&file, &BOX).unwrap();
+    assert_eq!((all.selected, all.meeting), (4, 4));
+    assert_eq!(all.marks, [Mark::Meets; 4]);
+    // A column of tiles 0 and 2 alone.
+    let left = chosen(&file, &BOX.window(100, i32::MIN, 1, u32::MAX)).unwrap();
+    assert_eq!((left.selected, left.meeting), (4, 2));
+    let (one, two) = (Mark::Selected, Mark::Meets);
+    assert_eq!(left.marks, [two, one, two, one]);
+    let empty = chosen(&file, &BOX.window(105, 65, 0, 9)).unwrap();
+    assert_eq!((empty.selected, empty.meeting), (4, 0));
+    let starts = [0, 0, 1];
+    let none = chosen(&file, &BOX.starts(&starts)).unwrap();
+    assert_eq!((none.selected, none.meeting), (0, 0));
+    assert_eq!(none.marks, [Mark::NotSelected; 4]);
+    assert_eq!(chosen(&[], &BOX).unwrap_err().reason, Reason::Length);
 }

@@ -90,6 +90,54 @@ fn all_tiles_are_those_asked_for_one_by_one() {
 }
 
 #[test]
+fn records_are_tiles_with_their_dimensions() {
+    for name in ["mosaic.czi", "free.czi", "pyramids.czi", "smallest.czi"] {
+        let file = sample(name);
+        let records = czi::all_records(&file).unwrap();
+        assert_eq!(records.len() as u64, czi::summary(&file).unwrap().tiles);
+        for (entry, record) in (0..).zip(records) {
+            assert_eq!(record.tile, czi::tile(&file, entry).unwrap(), "{name}");
+            assert_eq!(record.dimensions.len() as u64, record.tile.dimensions);
+            let bits = |d: &czi::Dimension| (d.letter, d.start, d.coordinate.to_bits(), d.stored);
+            for (k, dimension) in (0..).zip(&record.dimensions) {
+                let one = czi::dimension(&file, entry, k).unwrap();
+                assert_eq!(bits(dimension), bits(&one), "{name}");
+                assert_eq!(dimension.size, one.size);
+            }
+            let own = czi::dimensions(&file, entry).unwrap();
+            assert!(own.iter().map(bits).eq(record.dimensions.iter().map(bits)));
+        }
+    }
+    let refused = sample("refusal-09.czi");
+    let refusal = czi::judge(&refused).unwrap_err();
+    assert_eq!(czi::all_records(&refused).map(|_| ()), Err(refusal));
+}
+
+#[test]
+fn an_attachment_is_named() {
+    let file = sample("mosaic.czi");
+    let all = czi::attachments(&file).unwrap();
+    assert_eq!(all, [czi::attachment(&file, 0).unwrap()]);
+    let one = &all[0];
+    assert_eq!(one.name_text(), "TimeStamps");
+    assert_eq!(one.file_type_text(), "CZTIMS");
+    assert_eq!(one.guid_text(), "{13121110-1514-1716-1819-1A1B1C1D1E1F}");
+    let data = czi::attachment_data(&file, 0).unwrap();
+    assert_eq!(file[one.data.clone()].as_ptr_range(), data.as_ptr_range());
+    assert_eq!(
+        czi::attachment(&file, 1).unwrap_err(),
+        czi::Refusal::new(24, 0)
+    );
+    assert!(czi::attachments(&sample("smallest.czi"))
+        .unwrap()
+        .is_empty());
+    let refused = sample("refusal-09.czi");
+    let refusal = czi::judge(&refused).unwrap_err();
+    assert_eq!(czi::attachments(&refused).unwrap_err(), refusal);
+    assert_eq!(czi::attachment(&refused, 0).unwrap_err(), refusal);
+}
+
+#[test]
 fn the_library_is_the_one_that_this_crate_is_for() {
     assert_eq!(czi::calls::version(), czi::VERSION);
 }

@@ -2,7 +2,7 @@
 
 A file is lent as its bytes: bytes, a bytearray, a memoryview, an mmap or a numpy array. It is not copied, and no call
 changes a byte of it. Any bytes and any number get an answer: what is refused raises Refused, with the number, the place and
-the words of the rule. Each call judges the whole file first.
+the words of the rule. Each call judges the whole file first; tiles and all_records ask for all of them at once.
 
     import czi, mmap
     with open("scan.czi", "rb") as scan:
@@ -17,14 +17,15 @@ ends the program by SIGBUS.
 from ._library import VERSION
 from .counting import Count, count
 from .pixel import PixelType, pixel_bytes
-from .plane import Plane, compose
-from .reader import (attachment_data, common_attachment, common_xml, dimensions, judge, listing, summary, tile,
-                     tile_attachment, tile_metadata, tile_pixels, tiles)
-from .records import Box, Dimension, Extent, Mask, Summary, Tile
+from .plane import Plane, chosen, compose
+from .reader import (all_records, attachment, attachment_data, attachments, common_attachment, common_xml, dimensions, judge,
+                     listing, summary, tile, tile_attachment, tile_metadata, tile_pixels, tiles)
+from .records import Attachment, Box, Chosen, Dimension, Extent, Mark, Mask, Record, Summary, Tile
 from .refusal import Refused
 
 __all__ = [
-    "Box", "Count", "Dimension", "Extent", "Mask", "PixelType", "Plane", "Refused", "Summary", "Tile", "VERSION",
-    "attachment_data", "common_attachment", "common_xml", "compose", "count", "dimensions", "judge", "listing",
-    "pixel_bytes", "summary", "tile", "tile_attachment", "tile_metadata", "tile_pixels", "tiles",
+    "Attachment", "Box", "Chosen", "Count", "Dimension", "Extent", "Mark", "Mask", "PixelType", "Plane", "Record",
+    "Refused", "Summary", "Tile", "VERSION", "all_records", "attachment", "attachment_data", "attachments", "chosen",
+    "common_attachment", "common_xml", "compose", "count", "dimensions", "judge", "listing", "pixel_bytes",
+    "summary", "tile", "tile_attachment", "tile_metadata", "tile_pixels", "tiles",
 ]

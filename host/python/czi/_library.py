@@ -12,11 +12,20 @@ VERSION = 1
 TEXT = 192
 TILE_NUMBERS = 22
 TILE_STARTS = 3
+DIMENSION_NUMBERS = 5
+ATTACHMENT_GUID = 16
+ATTACHMENT_FILE_TYPE = 8
+ATTACHMENT_NAME = 80
+
+# The most that an accepted file has: tiles, and dimensions of a tile.
+MOST_TILES = 4096
+MOST_DIMENSIONS = 16
 
 _LENT = [c_void_p, c_size_t]
 _U64 = POINTER(c_uint64)
 _I32 = POINTER(c_int32)
 _PART = [_U64, _U64, _U64]
+_TABLE = [*_LENT, _U64, c_size_t, _I32, c_size_t, _U64, _U64]
 _COMPOSER = [
     *_LENT, *_LENT, c_uint32, c_uint32, *_LENT, c_int32, c_int32, c_uint32, c_uint32, c_uint32, *_LENT, *_LENT, *_PART]
 
@@ -29,14 +38,18 @@ SIGNATURES = {
     "czi_tile_metadata": (c_uint32, [*_LENT, c_uint64, *_PART]),
     "czi_tile_attachment": (c_uint32, [*_LENT, c_uint64, *_PART]),
     "czi_attachment_data": (c_uint32, [*_LENT, c_uint64, *_PART]),
+    "czi_attachment": (c_uint32, [*_LENT, c_uint64, _U64, c_void_p, c_void_p, c_void_p, _U64, _U64]),
     "czi_common_xml": (c_uint32, [*_LENT, *_PART]),
     "czi_common_attachment": (c_uint32, [*_LENT, *_PART]),
     "czi_tile": (c_uint32, [*_LENT, c_uint64, _U64, _U64, _I32]),
+    "czi_tiles": (c_uint32, _TABLE),
     "czi_dimension": (c_uint32, [*_LENT, c_uint64, c_uint64, _U64, _U64, _I32, _U64, POINTER(c_uint32), _U64]),
+    "czi_dimensions": (c_uint32, _TABLE),
     "czi_summary": (c_uint32, [*_LENT, *6 * [_U64], *4 * [_I32]]),
     "czi_list": (c_uint64, [*_LENT, c_void_p]),
     "czi_compose_plain": (c_uint32, _COMPOSER),
     "czi_compose_quick": (c_uint32, _COMPOSER),
+    "czi_chosen": (c_uint32, [*_LENT, *_LENT, c_uint32, c_int32, c_int32, c_uint32, c_uint32, *_LENT, *_PART]),
 }
 
 

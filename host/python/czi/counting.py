@@ -3,11 +3,12 @@
 from typing import NamedTuple
 
 from .pixel import pixel_bytes
-from .plane import compose, type_of
+from .plane import chosen, compose, refuse_early, type_of
 from .reader import summary
 
-# The greatest side of a window that the library composes.
+# The greatest side of a window that the library composes, and the last column and row.
 _SIDE = 65536
+_LAST = 2**31 - 1
 
 
 class Count(NamedTuple):
@@ -20,6 +21,7 @@ class Count(NamedTuple):
 
 def count(file, window=None, pixel_type=None, *, starts=None, scene=0, masks=False, memory=512 << 20):
     """Counts the covered pixels of a window, which may have sides of over 65,536: it is cut, and the counts are added.
+    Windows that no selected tile meets have none, which is proved, and are not composed.
 
     All is as for compose; window is the summary's box unless given. The windows take at most so many bytes of memory, but
     at least a row's.
@@ -29,28 +31,60 @@ def count(file, window=None, pixel_type=None, *, starts=None, scene=0, masks=Fal
         if box is None:
             return Count(0, 0, 0)
         window = box.window
-    left, top, width, height = window
-    pixel_type = type_of(file) if pixel_type is None else pixel_type
-    covered = windows = 0
-    target = map = None
-    for part in cut(left, top, width, height, pixel_bytes(pixel_type), memory):
-        plane = compose(file, part, pixel_type, starts=starts, scene=scene, masks=masks, target=target, map=map)
-        # The first is the largest: the others take its memory again.
-        target, map = plane.target, plane.map
+    pixel_type = type_of(file, window, starts, scene) if pixel_type is None else pixel_type
+    for end in ends(*window):
+        refuse_early(file, end, pixel_type, starts, scene)
+    cut = Cut(*window, pixel_bytes(pixel_type), memory)
+    pixels, covered = cut.wide * cut.high, 0
+    target = map_ = None
+    for part in cut.met(lambda block: chosen(file, block, starts=starts, scene=scene).meeting != 0):
+        if target is None:
+            # For the largest part: the others take that memory again.
+            target, map_ = bytearray(pixels * pixel_bytes(pixel_type)), bytearray((pixels + 7) // 8)
+        plane = compose(file, part, pixel_type, starts=starts, scene=scene, masks=masks, target=target, map=map_)
         covered += plane.covered
-        windows += 1
-    return Count(covered, width * height, windows)
+    return Count(covered, cut.width * cut.height, cut.columns * cut.rows)
 
 
-def cut(left, top, width, height, pixel, memory):
-    """The windows that a window is cut into, row by row: none has a side of over 65,536 or, if it has two rows, takes more
-    than that memory. One without pixels stays whole: it is refused."""
-    if width < 1 or height < 1:
-        yield left, top, width, height
-        return
-    wide = min(width, _SIDE)
-    bits_a_row = wide * (8 * pixel + 1)
-    high = max(1, min(_SIDE, height, 8 * memory // bits_a_row))
-    for y in range(0, height, high):
-        for x in range(0, width, wide):
-            yield left + x, top + y, min(wide, width - x), min(high, height - y)
+def ends(left, top, width, height):
+    """The first and the last part of at most 65,536 a side: the library takes the whole window in parts where it takes these
+    two. One that starts past the last column or row is put there, where no part fits."""
+    wide, high = min(width, _SIDE), min(height, _SIDE)
+    yield left, top, wide, high
+    yield min(left + width - wide, _LAST), min(top + height - high, _LAST), wide, high
+
+
+class Cut:
+    """A window with pixels, cut into parts of one size, smaller ones at the right and bottom: none has a side of over 65,536
+    or, if it has two rows, takes more than that memory."""
+
+    def __init__(self, left, top, width, height, pixel, memory):
+        self.left, self.top, self.width, self.height = left, top, width, height
+        self.wide = min(width, _SIDE)
+        bits_a_row = self.wide * (8 * pixel + 1)
+        self.high = max(1, min(_SIDE, height, 8 * memory // bits_a_row))
+        self.columns, self.rows = -(-width // self.wide), -(-height // self.high)
+
+    def met(self, is_met):
+        """The parts that are met, row by row. A block of parts of which none is met is not met itself and is left out
+        whole, so that a window that is empty for the most part takes few questions."""
+        blocks = [(range(self.columns), range(self.rows))]
+        while blocks:
+            columns, rows = blocks.pop()
+            window = self._window(columns, rows)
+            if not is_met(window):
+                continue
+            if len(rows) > 1:
+                half = len(rows) // 2
+                blocks += (columns, rows[half:]), (columns, rows[:half])
+            elif len(columns) > 1:
+                half = len(columns) // 2
+                blocks += (columns[half:], rows), (columns[:half], rows)
+            else:
+                yield window
+
+    def _window(self, columns, rows):
+        """The window that a block of parts makes up."""
+        across, down = columns.start * self.wide, rows.start * self.high
+        return (self.left + across, self.top + down,
+                min(columns.stop * self.wide, self.width) - across, min(rows.stop * self.high, self.height) - down)

@@ -1,11 +1,12 @@
 """The reader: verdict, parts, records, listing. All raise Refused where the file is refused, but listing."""
 
 import ctypes
-from ctypes import byref, c_int32, c_uint32, c_uint64
+from ctypes import byref, c_int32, c_uint64
 
 from ._lending import fitting, lent
-from ._library import TEXT, TILE_NUMBERS, TILE_STARTS, library
-from .records import Box, Dimension, Summary, tile_of
+from ._library import (ATTACHMENT_FILE_TYPE, ATTACHMENT_GUID, ATTACHMENT_NAME, DIMENSION_NUMBERS, MOST_DIMENSIONS,
+                       MOST_TILES, TEXT, TILE_NUMBERS, TILE_STARTS, library)
+from .records import Attachment, Box, Record, Summary, dimension_of, tile_of
 from .refusal import Refused
 
 
@@ -50,6 +51,20 @@ def attachment_data(file, entry):
     return _part(library.czi_attachment_data, file, fitting(entry, 64, "entry"))
 
 
+def attachment(file, entry):
+    """The record of an attachment; 24 where the attachment directory has no such entry."""
+    entry = fitting(entry, 64, "entry")
+    fields = [ctypes.create_string_buffer(size) for size in (ATTACHMENT_GUID, ATTACHMENT_FILE_TYPE, ATTACHMENT_NAME)]
+    start, length = c_uint64(), c_uint64()
+    ask(library.czi_attachment, file, [entry], (*fields, byref(start), byref(length)))
+    return Attachment(entry, *(field.raw for field in fields), slice(start.value, start.value + length.value))
+
+
+def attachments(file):
+    """The records of all attachments, in the order of their directory; the file is judged for each."""
+    return [attachment(file, entry) for entry in range(summary(file).attachments)]
+
+
 def common_xml(file):
     """The common XML, the very bytes of the file; empty without a metadata segment."""
     return _part(library.czi_common_xml, file)
@@ -68,24 +83,35 @@ def tile(file, entry):
 
 
 def tiles(file):
-    """The records of all tiles, in the order of the directory."""
-    return _tile_records(file)
+    """The records of all tiles, in the order of the directory. The file is judged once."""
+    rows = _rows(library.czi_tiles, file, MOST_TILES, TILE_NUMBERS, TILE_STARTS)
+    return [tile_of(numbers, starts) for numbers, starts in rows]
 
 
-def _tile_records(file):
-    """Every tile record by a call of its own, each of which judges the file."""
-    return [tile(file, entry) for entry in range(summary(file).tiles)]
+def all_records(file):
+    """The records of all tiles with all of their dimensions, in the order of the directory. The file is judged twice."""
+    found = tiles(file)
+    rows = iter(_dimensions(file, sum(one.dimensions for one in found)))
+    return [Record(one, [next(rows)[1] for _ in range(one.dimensions)]) for one in found]
 
 
 def dimensions(file, entry):
     """The records of all dimensions of a tile, as its entry has them; 24 where there is no such entry."""
-    return [_dimension(file, entry, number) for number in range(tile(file, entry).dimensions)]
+    tile(file, entry)
+    return [dimension for number, dimension in _dimensions(file, MOST_TILES * MOST_DIMENSIONS) if number == entry]
 
 
-def _dimension(file, entry, number):
-    letter, start, size, bits, stored = c_uint64(), c_int32(), c_uint64(), c_uint32(), c_uint64()
-    ask(library.czi_dimension, file, (entry, number), map(byref, (letter, start, size, bits, stored)))
-    return Dimension(chr(letter.value), start.value, size.value, bits.value, stored.value)
+def _dimensions(file, most):
+    """Every dimension record with the number of its entry; there are at most so many."""
+    rows = _rows(library.czi_dimensions, file, most, DIMENSION_NUMBERS, 1)
+    return [(numbers[0], dimension_of(numbers[1:], start)) for numbers, [start] in rows]
+
+
+def _rows(call, file, most, width, signed):
+    """Every record that a call gives, as its numbers and its signed ones, so many of each; there are at most so many."""
+    numbers, starts, count = (c_uint64 * (most * width))(), (c_int32 * (most * signed))(), c_uint64()
+    ask(call, file, (numbers, len(numbers), starts, len(starts)), [byref(count)])
+    return [(numbers[k * width:(k + 1) * width], starts[k * signed:(k + 1) * signed]) for k in range(count.value)]
 
 
 def summary(file):

@@ -1,7 +1,9 @@
-"""Records: a tile, a dimension, the figures of a file."""
+"""Records: a tile, a dimension, an attachment, the figures of a file."""
 
 import struct
+import uuid
 from dataclasses import dataclass
+from enum import IntEnum
 from typing import NamedTuple, Optional
 
 from .pixel import PixelType
@@ -63,6 +65,60 @@ class Dimension(NamedTuple):
         return struct.unpack("<f", struct.pack("<I", self.coordinate_bits))[0]
 
 
+class Record(NamedTuple):
+    """A tile with its dimensions, as its entry has them."""
+
+    tile: Tile
+    dimensions: list
+
+
+@dataclass(frozen=True)
+class Attachment:
+    """The record of an attachment. The bytes are as they stand in the file; data is a slice of it."""
+
+    entry: int                  # its number in the attachment directory, from 0
+    guid: bytes                 # the content GUID, 16 bytes
+    file_type: bytes            # 8 bytes, any; mostly letters, and zeros behind them
+    name: bytes                 # 80 bytes: the name ends at the first zero byte, and any may follow
+    data: slice
+
+    @property
+    def guid_text(self):
+        """The GUID as it is printed: the first three groups are numbers, whose low byte comes first in the file."""
+        return f"{{{uuid.UUID(bytes_le=self.guid)}}}".upper()
+
+    @property
+    def file_type_text(self):
+        """The file type up to its first zero byte, or all of it; what is no UTF-8 is replaced by U+FFFD."""
+        return _text(self.file_type)
+
+    @property
+    def name_text(self):
+        """The name up to its first zero byte; what is no UTF-8 is replaced by U+FFFD."""
+        return _text(self.name)
+
+
+def _text(field):
+    return field.split(b"\0")[0].decode("utf-8", "replace")
+
+
+class Mark(IntEnum):
+    """What a question makes of a tile."""
+
+    NotSelected = 0
+    Selected = 1                # and it shares no pixel with the window
+    Meets = 2                   # selected, and it shares a pixel with the window
+
+
+class Chosen(NamedTuple):
+    """What a question makes of the tiles of a file: how many it selects, how many of them share a pixel with its window,
+    and the mark of each, in the order of the directory. Where none meets the window, no pixel of it is covered."""
+
+    selected: int
+    meeting: int
+    marks: list
+
+
 class Box(NamedTuple):
     """The box over all tiles that are no pyramid tiles; right and bottom exclusive."""
 
@@ -100,3 +156,9 @@ def tile_of(numbers, starts):
         m=starts[2] if numbers[10] else None,
         metadata=part(11), pixels=part(13), attachment=part(15),
         mask=Mask(*numbers[18:22]) if numbers[17] else None)
+
+
+def dimension_of(numbers, start):
+    """A dimension record of the library, with names. The order is that of include/czi.h, behind the entry's number."""
+    letter, size, coordinate_bits, stored = numbers
+    return Dimension(chr(letter), start, size, coordinate_bits, stored)

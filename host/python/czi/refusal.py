@@ -23,7 +23,7 @@ WORDS = {
     18: "mask not as the rules say",
     20: "window side not 1 to 65,536, or right or bottom edge above 2,147,483,647",
     21: "asked type not listed, or background not one pixel long",
-    22: "target or map too short",
+    22: "target, map or array too short",
     23: "a selected tile that meets the window has another type",
     24: "no entry of that number, counted from 0",
     30: "listing only: input over 65,536 bytes",

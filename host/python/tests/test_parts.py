@@ -2,6 +2,8 @@
 
 import math
 import mmap
+import string
+import struct
 import tracemalloc
 import unittest
 from array import array
@@ -13,6 +15,29 @@ from stored import SAMPLES, sample
 def mapped(name):
     with open(SAMPLES / f"{name}.czi", "rb") as file:
         return mmap.mmap(file.fileno(), 0, access=mmap.ACCESS_READ)
+
+
+def largest():
+    """The mosaic with another directory, in which its first tile stands 4,096 times with 16 dimensions: the most of both."""
+    file = bytearray(sample("mosaic"))
+    tile = czi.tile(file, 0)
+    letters = "".join(d.letter for d in czi.dimensions(file, 0))
+    more = [struct.pack("<4siifi", letter.encode(), 0, 1, 0, 0) for letter in string.ascii_uppercase if letter not in letters]
+    entry = file[tile.place:tile.place + 32 + 20 * len(letters)] + b"".join(more[:16 - len(letters)])
+    entry[28:32] = struct.pack("<i", 16)
+    # A sub-block of its own, since its copy of the entry has to be the same.
+    entry[6:14] = struct.pack("<q", len(file))
+    pixels = file[tile.pixels]
+    segment(file, b"ZISRAWSUBBLOCK", struct.pack("<iiq", 0, 0, len(pixels)) + entry + pixels)
+    file[84:92] = struct.pack("<q", len(file))
+    segment(file, b"ZISRAWDIRECTORY", struct.pack("<i124x", 4096) + entry * 4096)
+    return file
+
+
+def segment(file, name, room):
+    """Puts a segment behind the file."""
+    allocated = -(-len(room) // 32) * 32
+    file += struct.pack("<16sqq", name, allocated, len(room)) + bytes(room).ljust(allocated, b"\0")
 
 
 def parts(file):
@@ -103,6 +128,50 @@ class Records(unittest.TestCase):
             area = tile.x.stored * tile.y.stored
             self.assertEqual(tile.pixels.stop - tile.pixels.start, area * tile.pixel_type.bytes)
         self.assertEqual([czi.pixel_bytes(n) for n in range(14)], [1, 2, 4, 3, 6, 0, 0, 0, 12, 4, 8, 24, 0, 0])
+
+    def test_records_are_tiles_with_their_dimensions(self):
+        for name in ("mosaic", "free", "pyramids", "smallest"):
+            file = sample(name)
+            found = czi.all_records(file)
+            self.assertEqual([record.tile for record in found], czi.tiles(file))
+            for tile, dimensions in found:
+                self.assertEqual(tile, czi.tile(file, tile.entry))
+                self.assertEqual(dimensions, czi.dimensions(file, tile.entry))
+                self.assertEqual(len(dimensions), tile.dimensions)
+                starts = {d.letter: (d.start, d.size, d.stored) for d in dimensions}
+                self.assertEqual((starts["X"], starts["Y"]), (tile.x, tile.y))
+        self.assertEqual("".join(d.letter for d in czi.all_records(sample("mosaic"))[3].dimensions), "XYCSM")
+
+    def test_every_record_of_the_largest_file(self):
+        file = largest()
+        found = czi.all_records(file)
+        self.assertEqual([tile.entry for tile, _ in found], list(range(4096)))
+        letters = {"".join(d.letter for d in dimensions) for _, dimensions in found}
+        self.assertEqual(letters, {"XYCSMABDEFGHIJKL"})
+        self.assertEqual(czi.dimensions(file, 4095), found[0].dimensions)
+        self.assertEqual(czi.tile(file, 4095), found[4095].tile)
+        self.assertEqual(czi.chosen(file), (4096, 4096, [czi.Mark.Meets] * 4096))
+
+    def test_attachments_are_named(self):
+        file = sample("mosaic")
+        attachment, = czi.attachments(file)
+        self.assertEqual(attachment, czi.attachment(file, 0))
+        self.assertEqual((attachment.name_text, attachment.file_type_text), ("TimeStamps", "CZTIMS"))
+        self.assertEqual((attachment.name, attachment.file_type), (b"TimeStamps".ljust(80, b"\0"), b"CZTIMS\0\0"))
+        self.assertEqual(attachment.guid, bytes(range(16, 32)))
+        self.assertEqual(attachment.guid_text, "{13121110-1514-1716-1819-1A1B1C1D1E1F}")
+        self.assertEqual(file[attachment.data], czi.attachment_data(file, 0))
+        self.assertEqual(czi.attachments(sample("smallest")), [])
+
+    def test_a_name_of_any_bytes(self):
+        file = bytearray(sample("mosaic"))
+        first = file.index(b"A1")
+        for place in (first, file.index(b"A1", first + 1)):
+            file[place + 40:place + 48] = b"ABCDEFGH"
+            file[place + 48:place + 58] = b"x\xFF\xC3\xA9\0more\xFF"
+        attachment = czi.attachment(file, 0)
+        self.assertEqual((attachment.file_type_text, attachment.name_text), ("ABCDEFGH", "x\uFFFD\u00E9"))
+        self.assertEqual(attachment.name[:10], b"x\xFF\xC3\xA9\0more\xFF")
 
     def test_dimensions_keep_their_bits(self):
         dimensions = czi.dimensions(sample("free"), 9)

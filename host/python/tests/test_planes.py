@@ -4,7 +4,7 @@ import unittest
 from array import array
 
 import czi
-from czi.counting import cut
+from czi.counting import Cut
 from stored import OPENSLIDE, sample
 from test_samples import refusal_of
 
@@ -119,12 +119,48 @@ class Planes(unittest.TestCase):
             self.assertEqual(refusal_of(czi.compose, sample("mosaic"), window, **how), wanted)
 
     def test_what_the_file_does_not_say(self):
-        with self.assertRaisesRegex(ValueError, "Gray8 and Gray16"):
-            czi.compose(sample("free"), (0, 0, 1, 1))
+        corner = (-2**31, -2**31, 1, 1)
+        for call in (czi.compose, czi.count):
+            with self.assertRaisesRegex(ValueError, "have Gray8 and GrayFloat and Bgr48 and Bgra32 and BgrComplex:"):
+                call(sample("free"), corner)
         with self.assertRaisesRegex(ValueError, "window"):
             czi.compose(sample("pyramids"))
         with self.assertRaisesRegex(ValueError, "no pixel type"):
             czi.compose(sample("smallest"), (0, 0, 1, 1))
+
+
+class Choosing(unittest.TestCase):
+    def test_marks_and_counts(self):
+        file = sample("mosaic")
+        no, selected, meets = czi.Mark
+        self.assertEqual(czi.chosen(file), (4, 4, [meets] * 4))
+        # A column of tiles 0 and 2 alone, as high as a window can be.
+        self.assertEqual(czi.chosen(file, (100, -2**31, 1, 2**32 - 1)), (4, 2, [meets, selected, meets, selected]))
+        self.assertEqual(czi.chosen(file, (105, 65, 0, 9)), (4, 0, [selected] * 4))
+        self.assertEqual(czi.chosen(file, scene=1), (0, 0, [no] * 4))
+        self.assertEqual(czi.chosen(file, starts={"C": 1}, scene="any"), (0, 0, [no] * 4))
+        self.assertEqual(czi.chosen(sample("pyramids"), (0, 0, 99, 99)), (0, 0, [no] * 2))
+        self.assertEqual(czi.chosen(sample("smallest"), (0, 0, 1, 1)), (0, 0, []))
+
+    def test_what_is_no_question(self):
+        with self.assertRaises(ValueError):
+            czi.chosen(sample("mosaic"), (0, 0, -1, 1))
+        with self.assertRaises(ValueError):
+            czi.chosen(sample("mosaic"), starts={"X": 0})
+        with self.assertRaisesRegex(ValueError, "window"):
+            czi.chosen(sample("pyramids"))
+        self.assertEqual(refusal_of(czi.chosen, sample("refusal-13"), (0, 0, 1, 1))[0], 13)
+
+    def test_the_type_is_that_of_the_tiles_in_the_window(self):
+        # Tiles of nine types, of which those at the window have one; or none is there, and the first tile's counts.
+        file = sample("free")
+        for window, covered in [((0, 0, 1, 1), 1), ((7, 7, 2, 2), 0)]:
+            plane = czi.compose(file, window)
+            self.assertEqual((plane.pixel_type, plane.covered), (czi.PixelType.Gray8, covered))
+            self.assertEqual(czi.count(file, window).covered, covered)
+        other = {"A": -1, "B": -1, "C": -1, "D": -1, "T": 2**31 - 2, "Z": 5, "R": 5}
+        self.assertEqual(czi.chosen(file, (0, 0, 1, 1), starts=other, scene=5)[:2], (1, 1))
+        self.assertEqual(czi.compose(file, (0, 0, 1, 1), starts=other, scene="any").covered, 1)
 
 
 class Counts(unittest.TestCase):
@@ -140,20 +176,49 @@ class Counts(unittest.TestCase):
 
     def test_the_windows_tile_the_window(self):
         for width, height, pixel, memory in [(7, 5, 3, 40), (65537, 2, 1, 1 << 20), (3, 65537, 1, 1 << 20), (1, 1, 24, 0)]:
-            places = set()
-            for left, top, wide, high in cut(-3, 4, width, height, pixel, memory):
-                self.assertTrue(1 <= wide <= 65536 and 1 <= high <= 65536)
+            places, windows = set(), 0
+            cut = Cut(-3, 4, width, height, pixel, memory)
+            for left, top, wide, high in cut.met(lambda block: True):
+                self.assertTrue(1 <= wide <= min(65536, cut.wide) and 1 <= high <= min(65536, cut.high))
                 self.assertTrue(high == 1 or wide * high * pixel + (wide * high + 7) // 8 <= memory)
                 new = {(x, y) for x in range(left, left + wide) for y in range(top, top + high)}
                 self.assertFalse(new & places)
                 places |= new
+                windows += 1
+            self.assertEqual(windows, cut.columns * cut.rows)
             self.assertEqual(len(places), width * height)
             self.assertEqual((min(places), max(places)), ((-3, 4), (width - 4, height + 3)))
+
+    def test_few_questions_find_the_windows_that_are_met(self):
+        asked = []
+
+        def is_met(block):
+            left, top, wide, high = block
+            asked.append(block)
+            return left <= 2**30 < left + wide and top <= 77 < top + high
+
+        cut = Cut(-2**31, -2**31, 2**32 - 1, 2**32 - 1, 1, 1 << 20)
+        (left, top, wide, high), = cut.met(is_met)
+        self.assertTrue(left <= 2**30 < left + wide and top <= 77 < top + high)
+        self.assertEqual((wide, high), (cut.wide, cut.high))
+        self.assertGreater(cut.columns * cut.rows, 2**40)
+        self.assertLess(len(asked), 100)
+        self.assertEqual(list(cut.met(lambda block: False)), [])
+
+    def test_windows_that_no_tile_meets_are_not_composed(self):
+        file = sample("mosaic")
+        plane = (-2**31, -2**31, 2**32 - 1, 2**32 - 1)
+        counted = czi.count(file, plane, masks=True, memory=1 << 20)
+        self.assertEqual(counted[:2], (1138, plane[2] * plane[3]))
+        self.assertGreater(counted.windows, 2**40)
+        self.assertEqual(czi.count(file, plane, scene=7)[0], 0)
 
     def test_nothing_to_count(self):
         self.assertEqual(czi.count(sample("pyramids")), (0, 0, 0))
         self.assertEqual(refusal_of(czi.count, sample("mosaic"), (100, 60, 0, 28)), (20, 0))
-        self.assertEqual(refusal_of(czi.count, sample("mosaic"), (2**31 - 2, 0, 70000, 1)), (20, 0))
+        for window in [(2**31 - 2, 0, 70000, 1), (2**31 - 1 - 65536, 0, 200000, 1), (0, 2**31 - 1, 1, 2**32 - 1)]:
+            self.assertEqual(refusal_of(czi.count, sample("mosaic"), window), (20, 0))
+        self.assertEqual(refusal_of(czi.count, sample("mosaic"), (0, 0, 9, 9), 12), (21, 0))
 
 
 if __name__ == "__main__":

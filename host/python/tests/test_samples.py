@@ -39,9 +39,10 @@ class Samples(unittest.TestCase):
         for name, file, _, said in listings():
             if said.get("refused", "30") != "30":
                 wanted = int(said["refused"]), int(said["place"])
-                for call in (czi.judge, czi.summary, czi.tiles, czi.common_xml, czi.compose, czi.count):
+                for call in (czi.judge, czi.summary, czi.tiles, czi.all_records, czi.attachments, czi.common_xml, czi.chosen,
+                             czi.compose, czi.count):
                     self.assertEqual(refusal_of(call, file), wanted, (name, call))
-                for call in (czi.tile, czi.dimensions, czi.tile_pixels, czi.attachment_data):
+                for call in (czi.tile, czi.dimensions, czi.tile_pixels, czi.attachment, czi.attachment_data):
                     self.assertEqual(refusal_of(call, file, 0), wanted, (name, call))
                 seen.add(wanted[0])
         self.assertEqual(seen, set(range(1, 19)) - {4})
@@ -64,7 +65,7 @@ class Refusal(unittest.TestCase):
     def test_what_there_is_not_is_24(self):
         file = sample("mosaic")
         for call, first_missing in [(czi.tile, 4), (czi.dimensions, 4), (czi.tile_pixels, 4), (czi.tile_metadata, 4),
-                                    (czi.tile_attachment, 4), (czi.attachment_data, 1)]:
+                                    (czi.tile_attachment, 4), (czi.attachment, 1), (czi.attachment_data, 1)]:
             for entry in (first_missing, 2**64 - 1):
                 self.assertEqual(refusal_of(call, file, entry), (24, 0), call)
 

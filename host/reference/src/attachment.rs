@@ -13,6 +13,12 @@ pub struct Attachment {
     pub place: u64,
     /// FilePosition, the place of its segment.
     pub file_position: u64,
+    /// The content GUID, as it stands in the entry.
+    pub content_guid: [u8; 16],
+    /// The content file type.
+    pub file_type: [u8; 8],
+    /// The name; a zero byte ends it.
+    pub name: [u8; 80],
     /// Its data.
     pub data: View,
 }
@@ -62,6 +68,14 @@ fn read_attachment(file: &[u8], segments: &[Segment], place: u64) -> Result<Atta
     Ok(Attachment {
         place,
         file_position: segment.position,
+        content_guid: bytes_of(entry, 24),
+        file_type: bytes_of(entry, 40),
+        name: bytes_of(entry, 48),
         data,
     })
+}
+
+/// A field of so many bytes, by its offset in the entry.
+fn bytes_of<const N: usize>(entry: &[u8], at: usize) -> [u8; N] {
+    std::array::from_fn(|k| entry[at + k])
 }

@@ -87,9 +87,14 @@ impl File<'_> {
         self.tile(entry).map(|t| t.attachment)
     }
 
-    /// The data of an attachment, counted in the attachment directory.
+    /// The record of an attachment, counted in the attachment directory.
+    pub fn attachment(&self, entry: u64) -> Result<&Attachment, Refusal> {
+        numbered(&self.attachments, entry)
+    }
+
+    /// The data of an attachment.
     pub fn attachment_data(&self, entry: u64) -> Result<View, Refusal> {
-        numbered(&self.attachments, entry).map(|a| a.data)
+        self.attachment(entry).map(|a| a.data)
     }
 }
 

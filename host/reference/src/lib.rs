@@ -38,7 +38,7 @@ pub use entry::Dimension;
 pub use judge::{judge, File};
 pub use listing::{list, Edges, Summary, LISTING_LIMIT};
 pub use pixel::bytes_a_pixel;
-pub use question::{Masks, Question};
+pub use question::{Chosen, Masks, Question};
 pub use refusal::Refusal;
 pub use segment::{Kind, Segment};
 pub use sub_block::fixed_part;

@@ -1,6 +1,18 @@
 //! The question that a composer answers: which tiles, which window, which pixels.
 
+use crate::judge::File;
 use crate::tile::Tile;
+
+/// What a question makes of a tile.
+#[derive(Clone, Copy, Debug, PartialEq, Eq)]
+pub enum Chosen {
+    /// It is not selected.
+    Not,
+    /// It is selected, and covers no pixel of the window.
+    Selected,
+    /// It is selected and covers a pixel of the window.
+    Meets,
+}
 
 /// The choice of masks.
 #[derive(Clone, Copy, Debug, PartialEq, Eq)]
@@ -75,11 +87,24 @@ impl Question {
             })
     }
 
-    /// Does the tile cover a pixel of the window?
+    /// Does the tile cover a pixel of the window? One without pixels has none.
     pub fn meets(&self, tile: &Tile) -> bool {
-        i64::from(self.left) < tile.x.end()
+        self.pixels() > 0
+            && i64::from(self.left) < tile.x.end()
             && i64::from(tile.x.start) < self.right()
             && i64::from(self.top) < tile.y.end()
             && i64::from(tile.y.start) < self.bottom()
+    }
+}
+
+impl File<'_> {
+    /// What the question makes of each tile, in the directory's order.
+    pub fn chosen(&self, question: &Question) -> Vec<Chosen> {
+        let of = |tile: &Tile| match (question.selects(tile), question.meets(tile)) {
+            (false, _) => Chosen::Not,
+            (true, false) => Chosen::Selected,
+            (true, true) => Chosen::Meets,
+        };
+        self.tiles.iter().map(of).collect()
     }
 }

@@ -36,6 +36,10 @@ fn check_file(file: &File, sound: &Sound, report: &mut Report) {
         let start = sound.segments[entry.segment].content() + 256;
         let data = view(start, entry.data_size);
         report.compare("data", file.attachment_data(k as u64), Ok(data));
+        let planned = &sound.bytes[entry.place..entry.place + 128];
+        let attachment = file.attachment(k as u64).ok();
+        let told = attachment.map(|a| [&a.content_guid[..], &a.file_type, &a.name].concat());
+        report.compare("attachment record", told.as_deref(), Some(&planned[24..]));
     }
     let (xml, attachment) = match sound.metadata {
         None => Default::default(),

@@ -3,11 +3,11 @@
 use crate::painter::{paint, Painting};
 use crate::report::Report;
 use generate::ask::{
-    ask_clauses, ask_freedoms_of, draw, first_of_another_type, Ask, AskClause, Cut, Request,
-    REQUEST_CLAUSES,
+    ask_clauses, ask_freedoms_of, draw, first_of_another_type, meets, selects, Ask, AskClause, Cut,
+    Request, REQUEST_CLAUSES,
 };
 use generate::{Random, Sound};
-use reference::{judge, File, Masks, Refusal};
+use reference::{judge, Chosen, File, Masks, Refusal};
 
 /// Questions of every kind to one file.
 pub fn check(sound: &Sound, random: &mut Random, questions: u64, report: &mut Report) {
@@ -20,11 +20,13 @@ pub fn check(sound: &Sound, random: &mut Random, questions: u64, report: &mut Re
             report.ask_freedoms.add(freedom);
         }
         check_ask(&file, sound, &ask, random, report);
+        check_chosen(&file, sound, &ask, report);
     }
     for clause in ask_clauses() {
         let ask = draw(sound, random);
         if let Some(spoiled) = clause.spoil(sound, random, ask) {
             check_spoiled(&file, sound, &spoiled, clause, report);
+            check_chosen(&file, sound, &spoiled, report);
         }
     }
     check_two_clauses(&file, sound, random, report);
@@ -37,6 +39,19 @@ pub fn check(sound: &Sound, random: &mut Random, questions: u64, report: &mut Re
             }
         }
     }
+}
+
+/// The reference chooses the tiles that the plan does, for a window without pixels too.
+fn check_chosen(file: &File, sound: &Sound, ask: &Ask, report: &mut Report) {
+    let question = &ask.question;
+    let of = |tile| match (selects(question, tile), meets(question, tile)) {
+        (false, _) => Chosen::Not,
+        (true, false) => Chosen::Selected,
+        (true, true) => Chosen::Meets,
+    };
+    let tiles = sound.entries.iter().map(|entry| sound.tile(entry));
+    let wanted: Vec<Chosen> = tiles.map(of).collect();
+    report.compare("chosen", file.chosen(question), wanted);
 }
 
 /// The reference's painting, or its refusal with the buffers left as they were.
@@ -172,6 +187,7 @@ fn refused(file: &File, request: Request) -> Option<Refusal> {
         Request::TilePixels(entry) => file.tile_pixels(entry).err(),
         Request::TileMetadata(entry) => file.tile_metadata(entry).err(),
         Request::TileAttachment(entry) => file.tile_attachment(entry).err(),
+        Request::Attachment(entry) => file.attachment(entry).err(),
         Request::AttachmentData(entry) => file.attachment_data(entry).err(),
     }
 }

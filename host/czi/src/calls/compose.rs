@@ -1,4 +1,4 @@
-//! The two composers.
+//! The two composers, and which tiles a question selects.
 
 use super::{Answer, UNWRITTEN};
 use crate::ffi;
@@ -94,3 +94,49 @@ composer!(
     compose_quick,
     czi_compose_quick
 );
+
+/// How many tiles a question selects; both are 0 where refused.
+#[derive(Clone, Copy, Debug, PartialEq, Eq)]
+pub struct ChosenCounts {
+    /// The marks that are not 0.
+    pub selected: u64,
+    /// The marks that are 2: those that share a pixel with the window.
+    pub meeting: u64,
+}
+
+/// Marks each tile: 0 not selected, 1 selected, 2 selected and it shares a pixel
+/// with the window. Of the question its starts, scene and window count; any window
+/// may be asked about. 22 where there are fewer marks than tiles; those past the
+/// tiles stay, and all where refused.
+pub fn chosen(file: &[u8], question: &Plain, marks: &mut [u8]) -> Answer<ChosenCounts> {
+    let mut place = UNWRITTEN;
+    let mut value = ChosenCounts {
+        selected: UNWRITTEN,
+        meeting: UNWRITTEN,
+    };
+    // SAFETY: each slice is so many objects of its type, marks are apart as Rust's
+    // are, the others are one object each.
+    let number = unsafe {
+        ffi::czi_chosen(
+            file.as_ptr(),
+            file.len(),
+            question.starts.as_ptr(),
+            question.starts.len(),
+            question.any_scene,
+            question.left,
+            question.top,
+            question.width,
+            question.height,
+            marks.as_mut_ptr(),
+            marks.len(),
+            &mut place,
+            &mut value.selected,
+            &mut value.meeting,
+        )
+    };
+    Answer {
+        number,
+        place,
+        value,
+    }
+}

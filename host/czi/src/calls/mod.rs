@@ -7,11 +7,13 @@
 #![allow(unsafe_code)]
 
 mod compose;
+mod tables;
 
 use crate::ffi;
 use crate::refusal::Refusal;
 
-pub use compose::{compose_plain, compose_quick, Counted, Plain};
+pub use compose::{chosen, compose_plain, compose_quick, ChosenCounts, Counted, Plain};
+pub use tables::{dimensions, tiles};
 
 /// What stands behind the out-pointers before a call.
 const UNWRITTEN: u64 = 0xA5A5_A5A5_A5A5_A5A5;
@@ -25,6 +27,19 @@ pub const TILE_NUMBERS: usize = 22;
 
 /// How many starts a tile record has: of X, Y and M.
 pub const TILE_STARTS: usize = 3;
+
+/// How many numbers a dimension has where all are asked for: the entry's number,
+/// letter, size, the bits of StartCoordinate and the stored size.
+pub const DIMENSION_NUMBERS: usize = 5;
+
+/// How many bytes an attachment's GUID has.
+pub const ATTACHMENT_GUID: usize = 16;
+
+/// How many bytes an attachment's file type has.
+pub const ATTACHMENT_FILE_TYPE: usize = 8;
+
+/// How many bytes an attachment's name has.
+pub const ATTACHMENT_NAME: usize = 80;
 
 /// An answer: the refusal's number and place, 0 where there is none, and the rest.
 #[derive(Clone, Copy, Debug, PartialEq, Eq)]
@@ -78,6 +93,17 @@ pub struct DimensionRecord {
     pub coordinate_bits: u32,
     /// StoredSize, where 0 is read as Size.
     pub stored: u64,
+}
+
+/// The arrays of an attachment record.
+#[derive(Clone, Copy, Debug, PartialEq, Eq)]
+pub struct AttachmentRecord {
+    /// The content GUID, its bytes as they stand in the file.
+    pub guid: [u8; ATTACHMENT_GUID],
+    /// The file type.
+    pub file_type: [u8; ATTACHMENT_FILE_TYPE],
+    /// The name, which ends at its first zero byte.
+    pub name: [u8; ATTACHMENT_NAME],
 }
 
 /// The figures of a file; all are 0 where refused.
@@ -164,6 +190,26 @@ pub fn tile_attachment(file: &[u8], entry: u64) -> Answer<Span> {
 /// there is no such entry.
 pub fn attachment_data(file: &[u8], entry: u64) -> Answer<Span> {
     numbered(ffi::czi_attachment_data, file, entry)
+}
+
+/// The record of an attachment, into the one that is lent, which stays as it was
+/// where refused, and where its data lie; 24 where there is no such entry.
+pub fn attachment(file: &[u8], entry: u64, record: &mut AttachmentRecord) -> Answer<Span> {
+    // SAFETY: file is so many bytes, the arrays are to as many as the header says,
+    // the others one object each.
+    spanned(|place, start, length| unsafe {
+        ffi::czi_attachment(
+            file.as_ptr(),
+            file.len(),
+            entry,
+            place,
+            record.guid.as_mut_ptr(),
+            record.file_type.as_mut_ptr(),
+            record.name.as_mut_ptr(),
+            start,
+            length,
+        )
+    })
 }
 
 /// The common XML; empty without a metadata segment.

@@ -16,6 +16,8 @@ pub enum Request {
     TileMetadata(u64),
     /// The attachment of a tile's sub-block.
     TileAttachment(u64),
+    /// The record of an attachment.
+    Attachment(u64),
     /// The data of an attachment.
     AttachmentData(u64),
 }
@@ -65,17 +67,25 @@ pub const REQUEST_CLAUSES: &[RequestClause] = &[
         make: |sound, random| {
             sound.attachment_directory?;
             let number = past(random, sound.attachments.len());
-            Some(Request::AttachmentData(number))
+            Some(an_attachment(random, number))
         },
     },
     RequestClause {
         name: "24: an attachment where no directory is named",
         make: |sound, random| match sound.attachment_directory {
             Some(_) => None,
-            None => Some(Request::AttachmentData(past(random, 0))),
+            None => {
+                let number = past(random, 0);
+                Some(an_attachment(random, number))
+            }
         },
     },
 ];
+
+/// One of the requests for an attachment.
+fn an_attachment(random: &mut Random, number: u64) -> Request {
+    random.pick(&[Request::Attachment(number), Request::AttachmentData(number)])
+}
 
 /// A number that is not under the count.
 fn past(random: &mut Random, count: usize) -> u64 {
