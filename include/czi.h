@@ -190,9 +190,9 @@ uint32_t czi_tile(const uint8_t *file, size_t file_len, uint64_t entry,
 /* The records of all tiles, in the order of the directory: what czi_tile gives for entry k stands in numbers from
  * CZI_TILE_NUMBERS * k on and in starts from CZI_TILE_STARTS * k on.
  *
- * 22 where an array is too short for that; longer ones are fine, and what is past the records stays.
- * tiles is how many an accepted file has, at most 4,096, also where 22 is given: a call with no arrays (CZI_NONE and 0
- * for each) asks for it. 0 where the file is refused. */
+ * 22 where an array is too short for that; longer ones are fine, and what is past the records stays. Arrays for
+ * CZI_MOST_TILES tiles are long enough for any file; czi_summary says how many a file has.
+ * tiles is how many records were written, 0 where refused. */
 uint32_t czi_tiles(const uint8_t *file, size_t file_len,
                    uint64_t *numbers, size_t numbers_len, int32_t *starts, size_t starts_len,
                    uint64_t *place, uint64_t *tiles);
@@ -219,8 +219,8 @@ enum {
  * entry has them. The one of row r has its numbers from CZI_DIMENSION_NUMBERS * r on, and its start at starts[r]. The
  * rows of a tile begin behind those of the tiles before it; its record says how many it has (CZI_TILE_DIMENSIONS).
  *
- * 22, arrays and counts as for czi_tiles: dimensions is how many rows there are, at most 65,536, also where 22 is
- * given; 0 where the file is refused. */
+ * 22 and arrays as for czi_tiles: of the sum of CZI_TILE_DIMENSIONS over all tiles there are so many rows, at most
+ * 16 * CZI_MOST_TILES. dimensions is how many were written, 0 where refused. */
 uint32_t czi_dimensions(const uint8_t *file, size_t file_len,
                         uint64_t *numbers, size_t numbers_len, int32_t *starts, size_t starts_len,
                         uint64_t *place, uint64_t *dimensions);

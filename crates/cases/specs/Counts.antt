@@ -21,7 +21,7 @@ use Rattle.format.specs.declared.Verdict.the-variants.{Accepted, Refused}
 use Rattle.plane.specs.Sums.{sum, tab}
 use Rattle.selection.specs.Select.{askedStart, tileStart, free, startsThere, selects}
 use Rattle.tiles.specs.FileTile.{rectangle, meets}
-use Rattle.counting.specs.Chosen.{sought, shares, picksAt, meetsAt, markAt, countsBelow, countsOf, marksBelow, marksOf, chosenVerdict, noCounts}
+use Rattle.counting.specs.Chosen.{sought, shares, selectsAt, meetsAt, markAt, countsBelow, countsOf, marksBelow, marksOf, chosenVerdict, noCounts}
 use Rattle.counting.specs.declared.ChosenCounts.{ChosenCounts}
 use Rattle.cases.specs.Cases.{little, segment, fileSegment, dimensionOf, entryOf, blockOf, wide8, fileWide, fileTwo}
 
@@ -90,5 +90,5 @@ cases =
     []
 
 pub all-right : AllRight cases
-unfolding little segment fileSegment dimensionOf entryOf blockOf wide8 fileWide fileTwo twoChannels sum tab shares picksAt meetsAt markAt countsBelow marksBelow chosenVerdict askedStart tileStart free startsThere selects rectangle meets isPyramid anyOf anyBelow allBelow leastBelow u32At u64At biased sameAt sameRange nameFile nameDirectory nameSubBlock nameMetadata nameAttachment nameAttachmentDirectory nameDeleted markTile containerMarker rowsBelow allocatedSize usedSize room nextSegment lengthBad nameBad allocatedBad usedBad endBad sizesBad roleBad segmentRows walkRows walkedFrom walked segmentsRows member walkedAs major filePart directoryPosition metadataPosition updatePending attachmentDirectoryPosition namesNone namesNoneBut0 fileRows pixelType filePosition entryPart compression dimensionCount letter start size storedField stored nextEntry headBad letterBad tooFar isPlane sizeBad dimensionBad hasLetter repeats closesPlane dimensionsBad letterIndex letterPlace pixelBytes metadataSize attachmentSize dataSize fixedPart copyBad subBlockBad pixelsSize contentsBad metadataPlace pixelsPlace attachmentPlace isContainer hasChunks entryCount roomEnd tileCount entryPlace directoryBad headRows tileRows subBlockRows attachmentRows entryRows directoryRows metadataRows attachmentsRows checks
+unfolding little segment fileSegment dimensionOf entryOf blockOf wide8 fileWide fileTwo twoChannels sum tab shares selectsAt meetsAt markAt countsBelow marksBelow chosenVerdict askedStart tileStart free startsThere selects rectangle meets isPyramid anyOf anyBelow allBelow leastBelow u32At u64At biased sameAt sameRange nameFile nameDirectory nameSubBlock nameMetadata nameAttachment nameAttachmentDirectory nameDeleted markTile containerMarker rowsBelow allocatedSize usedSize room nextSegment lengthBad nameBad allocatedBad usedBad endBad sizesBad roleBad segmentRows walkRows walkedFrom walked segmentsRows member walkedAs major filePart directoryPosition metadataPosition updatePending attachmentDirectoryPosition namesNone namesNoneBut0 fileRows pixelType filePosition entryPart compression dimensionCount letter start size storedField stored nextEntry headBad letterBad tooFar isPlane sizeBad dimensionBad hasLetter repeats closesPlane dimensionsBad letterIndex letterPlace pixelBytes metadataSize attachmentSize dataSize fixedPart copyBad subBlockBad pixelsSize contentsBad metadataPlace pixelsPlace attachmentPlace isContainer hasChunks entryCount roomEnd tileCount entryPlace directoryBad headRows tileRows subBlockRows attachmentRows entryRows directoryRows metadataRows attachmentsRows checks
 all-right = (refl, (refl, (refl, (refl, (refl, (refl, (refl, (refl, (refl, (refl, (refl, tt)))))))))))

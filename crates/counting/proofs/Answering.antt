@@ -14,7 +14,7 @@ use Rattle.format.specs.declared.Verdict.{Verdict}
 use Rattle.format.specs.declared.Verdict.the-variants.{Accepted, Refused}
 use Rattle.format.proofs.Firsts.{first-pass, first-stop}
 use Rattle.plane.specs.declared.Rect.{Rect}
-use Rattle.counting.specs.Chosen.{Sought, seek, Marked, chosenVerdict, ChosenAnswered}
+use Rattle.counting.specs.Chosen.{Sought, seek, TilesMarked, chosenVerdict, ChosenAnswered}
 use Rattle.counting.specs.declared.ChosenCounts.{ChosenCounts}
 use Rattle.counting.specs.declared.ChosenAnswer.the-variants as Ans
 
@@ -24,7 +24,7 @@ module _ (q : Sought) (before : List ℕ) where
   refused-so : (m p : ℕ) → chosenVerdict q (length before) ≡ Refused m p → ChosenAnswered q before before (Ans.Refused m p)
   refused-so m p e = record { answer-is = rw e; number-is = rw e; place-is = rw e; counts-are = rw e; marks-are = rw e }
 
-  found-so : {after : List ℕ} {r : ChosenCounts} → chosenVerdict q (length before) ≡ Accepted → Marked q before after r
+  found-so : {after : List ℕ} {r : ChosenCounts} → chosenVerdict q (length before) ≡ Accepted → TilesMarked q before after r
       → ChosenAnswered q before after (Ans.Found r)
   found-so e h = record {
     answer-is = rw e (ap Ans.Found (h .counts-are));
@@ -49,7 +49,7 @@ module _ (bs : List ℕ) (starts : List ℤ) (anyScene : Bool) (w : Rect) (befor
         (first-pass (checks (scanOf bs)) _ (sym (a .answer-is) ∙ h) ∙ rw (← e, lt-ltb (length before) n l))
 
     -- w′ is the window as the code made it
-    pub chosen-found : {after : List ℕ} {r : ChosenCounts} {w′ : Rect} → n ≤ length before → w′ ≡ w → Marked (seek bs starts anyScene w′) before after r
+    pub chosen-found : {after : List ℕ} {r : ChosenCounts} {w′ : Rect} → n ≤ length before → w′ ≡ w → TilesMarked (seek bs starts anyScene w′) before after r
         → ChosenAnswered (seek bs starts anyScene w) before after (Ans.Found r)
     unfolding chosenVerdict verdict
     chosen-found l f m =

@@ -30,7 +30,8 @@ use Rattle.selection.specs.Select.{selects}
 use Rattle.subblocks.specs.Judged.{Listed}
 use Rattle.tiles.specs.FileTile.{rectangle, meets}
 use Rattle.tiles.proofs.Rectangles.{read-edges}
-use Rattle.counting.specs.Chosen.{Sought, seek, windowOf, shares, picksAt, meetsAt, markAt, countsBelow, marksBelow, Marked}
+use Rattle.question.specs.Question.{windowOf}
+use Rattle.counting.specs.Chosen.{Sought, seek, shares, selectsAt, meetsAt, markAt, countsBelow, marksBelow, TilesMarked}
 
 -- ---- a window without a pixel shares none
 
@@ -51,16 +52,16 @@ module _ (a w : Rect) where
 
 module _ (bs : List ℕ) (starts : List ℤ) (anyScene : Bool) (w : Rect) (e : ℕ) (p : Bool) (i : p ≡ selects bs starts anyScene e) where
   pub not-selected : not p ≡ true → 0 ≡ markAt (seek bs starts anyScene w) e
-  unfolding markAt meetsAt picksAt
+  unfolding markAt meetsAt selectsAt
   not-selected h = rw (← i, not-true p h)
 
   module _ (h : not p ≡ false) (a : Rect) (f : a ≡ rectangle bs e) (m : Bool) (j : m ≡ shares a w) where
     pub apart : not m ≡ true → 1 ≡ markAt (seek bs starts anyScene w) e
-    unfolding markAt meetsAt picksAt
+    unfolding markAt meetsAt selectsAt
     apart k = rw (← i, not-false p h, ← f, ← j, not-true m k)
 
     pub sharing : not m ≡ false → 2 ≡ markAt (seek bs starts anyScene w) e
-    unfolding markAt meetsAt picksAt
+    unfolding markAt meetsAt selectsAt
     sharing k = rw (← i, not-false p h, ← f, ← j, not-false m k)
 
 -- the edges that the code adds fit
@@ -85,9 +86,9 @@ one-yes n m h = rw (le-leb n m h)
 pub one-no : (n m : ℕ) → m < n → 0 ≡ one (leb n m)
 one-no n m h = rw (lt-leb n m h)
 
-pub marked-selected : (q : Sought) (e : ℕ) → leb 1 (markAt q e) ≡ picksAt q e
+pub marked-selected : (q : Sought) (e : ℕ) → leb 1 (markAt q e) ≡ selectsAt q e
 unfolding markAt meetsAt
-marked-selected q e = go (picksAt q e) (shares (rectangle (q .scan .file) e) (q .window))
+marked-selected q e = go (selectsAt q e) (shares (rectangle (q .scan .file) e) (q .window))
   where
     go : (p s : Bool) → leb 1 (cond (p && s) 2 (cond p 1 0)) ≡ p
     go true true = refl
@@ -96,7 +97,7 @@ marked-selected q e = go (picksAt q e) (shares (rectangle (q .scan .file) e) (q 
 
 marked-meeting : (q : Sought) (e : ℕ) → leb 2 (markAt q e) ≡ meetsAt q e
 unfolding markAt
-marked-meeting q e = go (meetsAt q e) (picksAt q e)
+marked-meeting q e = go (meetsAt q e) (selectsAt q e)
   where
     go : (m p : Bool) → leb 2 (cond m 2 (cond p 1 0)) ≡ m
     go true p = refl
@@ -108,7 +109,7 @@ marked-meeting q e = go (meetsAt q e) (picksAt q e)
 -- there are no more than entries
 few-selected : (q : Sought) (k : ℕ) → countsBelow q k .selected ≤ k
 unfolding countsBelow
-few-selected q k = count-le k (λ i. picksAt q (tileEntry (q .scan) i))
+few-selected q k = count-le k (λ i. selectsAt q (tileEntry (q .scan) i))
 
 few-meeting : (q : Sought) (k : ℕ) → countsBelow q k .meeting ≤ k
 unfolding countsBelow
@@ -179,7 +180,7 @@ module _ (bs : List ℕ) (starts : List ℤ) (anyScene : Bool) (w : Rect) (befor
             → cond (ltb j k) (markAt q (entryPlace bs j)) (getD before j 0) ≡ cond (ltb j (k + 1)) (markAt q (entryPlace bs j)) (getD before j 0)
         others j l d = rw (ltb-next j k d)
 
-    pub marking-end : n ≤ k → Marked q before t (record { selected = selected; meeting = meeting })
+    pub marking-end : n ≤ k → TilesMarked q before t (record { selected = selected; meeting = meeting })
     unfolding countsBelow
     marking-end h = let f : k ≡ tileCount bs = omega (arith, i .whole, i .at .count) in record {
       counts-are = rw (i .selected-is, i .meeting-is, f);

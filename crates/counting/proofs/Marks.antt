@@ -12,14 +12,14 @@ use Rattle.format.specs.Records.{tileEntry}
 use Rattle.plane.specs.Sums.{one}
 use Rattle.plane.proofs.Tests.{by-lt}
 use Rattle.plane.proofs.SumLaws.{sum-ext, length-tab, getD-tab}
-use Rattle.counting.specs.Chosen.{Sought, picksAt, meetsAt, markAt, countsBelow, marksBelow, marksOf}
+use Rattle.counting.specs.Chosen.{Sought, selectsAt, meetsAt, markAt, countsBelow, marksBelow, marksOf}
 use Rattle.counting.specs.Claims.{Marks, AllMarks}
 use Rattle.counting.proofs.Marking.{marked-selected}
 
 -- a mark of 2 says that its tile is selected and shares a pixel with the window
 marked-meeting : (q : Sought) (e : ℕ) → meetsAt q e ≡ eqb (markAt q e) 2
 unfolding markAt
-marked-meeting q e = go (meetsAt q e) (picksAt q e)
+marked-meeting q e = go (meetsAt q e) (selectsAt q e)
   where
     go : (m p : Bool) → m ≡ eqb (cond m 2 (cond p 1 0)) 2
     go true p = refl
@@ -45,7 +45,7 @@ module _ (q : Sought) (before : List ℕ) where
     mark : (k : ℕ) → k < tileCount (q .scan .file) → getD (marksOf q before) k 0 ≡ markAt q (tileEntry (q .scan) k)
     mark k h = at k (omega arith) ∙ rw (lt-ltb k (tileCount (q .scan .file)) h)
 
-    as-selected : (k : ℕ) → k < tileCount (q .scan .file) → picksAt q (tileEntry (q .scan) k) ≡ ltb 0 (getD (marksOf q before) k 0)
+    as-selected : (k : ℕ) → k < tileCount (q .scan .file) → selectsAt q (tileEntry (q .scan) k) ≡ ltb 0 (getD (marksOf q before) k 0)
     as-selected k h = rw (mark k h) (sym (marked-selected q (tileEntry (q .scan) k)))
 
     as-meeting : (k : ℕ) → k < tileCount (q .scan .file) → meetsAt q (tileEntry (q .scan) k) ≡ eqb (getD (marksOf q before) k 0) 2

@@ -16,7 +16,7 @@ use Rattle.plane.specs.declared.Rect.{Rect}
 use Rattle.plane.proofs.Partitions.{covers-inside, inside-covers}
 use Rattle.tiles.specs.FileTile.{rectangle, meets}
 use Rattle.tiles.proofs.Rectangles.{Bounded, rectangle-edges, meeting}
-use Rattle.counting.specs.Chosen.{shares, picksAt, meetsAt}
+use Rattle.counting.specs.Chosen.{shares, selectsAt, meetsAt}
 use Rattle.counting.specs.Claims.{Shared, Sharing, Meeting, TileSharing}
 
 module _ (a w : Rect) where
@@ -77,6 +77,6 @@ tile-sharing q h k l =
     let e = tileEntry (q .scan) k in
     let a = rectangle (q .scan .file) e in
     let b = tile-sides (q .scan) h k l in (
-      λ m. let p = and-both (picksAt q e) _ m in (p .0, shares-shared a (q .window) (b .wide) (b .high) (p .1)),
+      λ m. let p = and-both (selectsAt q e) _ m in (p .0, shares-shared a (q .window) (b .wide) (b .high) (p .1)),
       λ m. rw (m .0) (shared-shares a (q .window) (m .1)),
     )

@@ -21,7 +21,7 @@ use Rattle.plane.proofs.Partitions.{within-none}
 use Rattle.tiles.specs.FileTile.{rectangle, entryTile, fileTile, tilesBelow}
 use Rattle.question.specs.Call.{Asked, choiceOf, chosen, callVerdict, askedWindow, selected, answer, coveredIn}
 use Rattle.question.proofs.Calls.{decide, room, runs, covered-is}
-use Rattle.counting.specs.Chosen.{picksAt, meetsAt, countsBelow, countsOf}
+use Rattle.counting.specs.Chosen.{selectsAt, meetsAt, countsBelow, countsOf}
 use Rattle.counting.specs.Claims.{soughtIn, AllUsed}
 use Rattle.counting.proofs.Sharing.{shared-shares}
 
@@ -38,7 +38,7 @@ tiles-length (suc n) ch chosen = go (chosen n) (tiles-length n ch chosen)
     go false e = omega (arith, e)
 
 as-selected : (a : Asked) (w : Rect) → countsOf (soughtIn a w) .selected ≡ length (selected a)
-unfolding countsBelow picksAt selected
+unfolding countsBelow selectsAt selected
 as-selected a w = sym (tiles-length (tileCount (a .scan .file)) (choiceOf a) (chosen a))
 
 -- a count of 0: of none of the numbers does the test hold
@@ -99,7 +99,7 @@ module _ (a : Asked) (w : Rect) (z : countsOf (soughtIn a w) .meeting ≡ 0) whe
   meets-none = count-zero (tileCount (a .scan .file)) (λ k. meetsAt (soughtIn a w) (tileEntry (a .scan) k)) z
 
   not-covered : (u v : ℕ) → covers w u v ≡ true → covered (selected a) u v ≡ false
-  unfolding meetsAt picksAt
+  unfolding meetsAt selectsAt
   not-covered u v c = by-bool (covered (selected a) u v) (λ e. absurd (clash (selected-by a u v e))) (λ e. e)
     where
       clash : CoveredBy (choiceOf a) (chosen a) (tileCount (a .scan .file)) u v → ⊥

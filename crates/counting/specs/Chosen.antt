@@ -7,7 +7,6 @@ use lib.ListN.{length, getD}
 use lib.Dec.{ltb}
 use lib.IntN.{ℤ}
 use Rattle.format.specs.Scan.{Scan, scanOf}
-use Rattle.format.specs.Bytes.{shifted}
 use Rattle.format.specs.Checks.{row, first, numberOf, placeOf, ifAccepted}
 use Rattle.format.specs.Directory.{tileCount}
 use Rattle.format.specs.Records.{tileEntry}
@@ -18,6 +17,7 @@ use Rattle.plane.specs.Sums.{count, tab}
 use Rattle.plane.specs.declared.Rect.{Rect}
 use Rattle.selection.specs.Select.{selects}
 use Rattle.tiles.specs.FileTile.{rectangle, meets}
+use Rattle.question.specs.Question.{windowOf}
 use Rattle.counting.specs.declared.ChosenCounts.{ChosenCounts}
 use Rattle.counting.specs.declared.ChosenAnswer.{ChosenAnswer}
 use Rattle.counting.specs.declared.ChosenAnswer.the-variants as Ans
@@ -34,10 +34,6 @@ pub record Sought : Type 0 where
 abbrev pub seek : List ℕ → List ℤ → Bool → Rect → Sought
 seek bs starts anyScene w = record { scan = scanOf bs; starts = starts; anyScene = anyScene; window = w }
 
--- the window in plane coordinates, which are the signed ones plus 2 ^ 31
-abbrev pub windowOf : ℤ → ℤ → ℕ → ℕ → Rect
-windowOf left top width height = record { left = shifted left; top = shifted top; width = width; height = height }
-
 abbrev pub sought : List ℕ → List ℤ → Bool → ℤ → ℤ → ℕ → ℕ → Sought
 sought bs starts anyScene left top width height = seek bs starts anyScene (windowOf left top width height)
 
@@ -48,23 +44,23 @@ unfoldable pub shares : Rect → Rect → Bool
 shares a w = (ltb 0 (w .width) && ltb 0 (w .height)) && meets a w
 
 -- it is selected
-unfoldable pub picksAt : Sought → ℕ → Bool
-picksAt q e = selects (q .scan .file) (q .starts) (q .anyScene) e
+unfoldable pub selectsAt : Sought → ℕ → Bool
+selectsAt q e = selects (q .scan .file) (q .starts) (q .anyScene) e
 
 -- it is selected, and shares a pixel with the window
 unfoldable pub meetsAt : Sought → ℕ → Bool
-meetsAt q e = picksAt q e && shares (rectangle (q .scan .file) e) (q .window)
+meetsAt q e = selectsAt q e && shares (rectangle (q .scan .file) e) (q .window)
 
 -- its mark: 0 not selected, 1 selected, 2 selected and it shares a pixel with the window
 unfoldable pub markAt : Sought → ℕ → ℕ
-markAt q e = cond (meetsAt q e) 2 (cond (picksAt q e) 1 0)
+markAt q e = cond (meetsAt q e) 2 (cond (selectsAt q e) 1 0)
 
 -- ---- all of them, by the number of the entry
 
 -- how many of those below n are selected, and how many of the selected ones share a pixel with the window
 unfoldable pub countsBelow : Sought → ℕ → ChosenCounts
 countsBelow q n =
-    record { selected = count n (λ k. picksAt q (tileEntry (q .scan) k)); meeting = count n (λ k. meetsAt q (tileEntry (q .scan) k)) }
+    record { selected = count n (λ k. selectsAt q (tileEntry (q .scan) k)); meeting = count n (λ k. meetsAt q (tileEntry (q .scan) k)) }
 
 abbrev pub countsOf : Sought → ChosenCounts
 countsOf q = countsBelow q (tileCount (q .scan .file))
@@ -77,7 +73,7 @@ abbrev pub marksOf : Sought → List ℕ → List ℕ
 marksOf q before = marksBelow q before (tileCount (q .scan .file))
 
 -- what marking and counting leaves and answers
-pub record Marked (q : Sought) (before after : List ℕ) (r : ChosenCounts) : Type 0 where
+pub record TilesMarked (q : Sought) (before after : List ℕ) (r : ChosenCounts) : Type 0 where
   pub counts-are : r ≡ countsOf q
   pub marks-are : after ≡ marksOf q before
 

@@ -21,7 +21,7 @@ use Rattle.question.specs.Call.{Asked, chosen, askedWindow, selected, answer, c
 use Rattle.listing.specs.Summary.{left, top, right, bottom, unshifted, summaryOf}
 use Rattle.listing.specs.declared.Bounds.{Bounds}
 use Rattle.listing.specs.declared.Bounds.the-variants.{Nothing, Box}
-use Rattle.counting.specs.Chosen.{Sought, shares, picksAt, meetsAt, markAt, countsOf, marksOf}
+use Rattle.counting.specs.Chosen.{Sought, shares, selectsAt, meetsAt, markAt, countsOf, marksOf}
 
 -- ---- the marks
 
@@ -59,7 +59,7 @@ Meeting = (a w : Rect) → 1 ≤ w .width → 1 ≤ w .height → shares a w ≡
 abbrev pub TileSharing : Type 0
 TileSharing = (q : Sought) → verdict (q .scan) ≡ Accepted → (k : ℕ) → k < tileCount (q .scan .file)
     → (meetsAt q (tileEntry (q .scan) k) ≡ true)
-    ↔ ((picksAt q (tileEntry (q .scan) k) ≡ true) × Shared (rectangle (q .scan .file) (tileEntry (q .scan) k)) (q .window))
+    ↔ ((selectsAt q (tileEntry (q .scan) k) ≡ true) × Shared (rectangle (q .scan .file) (tileEntry (q .scan) k)) (q .window))
 
 -- ---- what is counted is what the composers use
 

@@ -11,7 +11,8 @@ ghost use Rattle.format.specs.Rules.{verdict};
 ghost use Rattle.format.specs.declared.Verdict.the-variants.{Accepted};
 ghost use Rattle.plane.specs.Sums.{one};
 ghost use Rattle.subblocks.specs.Judged.{Listed};
-ghost use Rattle.counting.specs.Chosen.{shares, windowOf, markAt, sought, seek, Marked, ChosenAnswered};
+ghost use Rattle.question.specs.Question.{windowOf};
+ghost use Rattle.counting.specs.Chosen.{shares, markAt, sought, seek, TilesMarked, ChosenAnswered};
 
 // How many tiles a question selects, and how many of those share a pixel with its window.
 pub struct ChosenCounts {
@@ -87,7 +88,7 @@ fn window_of(left: i32, top: i32, width: u32, height: u32) -> Rect
 fn mark_all(s: &[u8], starts: &[i32], any_scene: bool, w: Rect, marks: &mut [u8]) -> ChosenCounts
     requires { ⌜ (verdict (scanOf (now s)) ≡ Accepted) × (tileCount (now s) ≤ length (now marks)) ⌝ }
     requires { ⌜ (w .left + w .width < 2 ^ 64) × (w .top + w .height < 2 ^ 64) ⌝ }
-    ensures { λ r. ⌜ Marked (seek (now (s .entry)) (now (starts .entry)) «any_scene» w) (now (marks .entry)) (now (marks .exit)) r ⌝ }
+    ensures { λ r. ⌜ TilesMarked (seek (now (s .entry)) (now (starts .entry)) «any_scene» w) (now (marks .entry)) (now (marks .exit)) r ⌝ }
 {
     let n = judge::tile_count(s);
     let mut e = directory::first_entry(s);

@@ -41,7 +41,7 @@ pub record Proper (w : Rect) : Type 0 where
   pub right : w .left + w .width < 2 ^ 32
   pub bottom : w .top + w .height < 2 ^ 32
 
--- a tile's rectangle a, which has a pixel, meets the window, as refusal 23 asks: they share a pixel, masks aside
+-- a tile's rectangle a meets the window, each of which has a pixel, as refusal 23 asks: they share one, masks aside
 pub record Meets (a w : Rect) : Type 0 where
   pub left : w .left < a .left + a .width
   pub right : a .left < w .left + w .width

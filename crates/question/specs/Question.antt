@@ -4,6 +4,7 @@ use mathlib.Core.List.{List, [], _∷_}
 use mathlib.Core.Bool.{Bool, true, false, cond, not}
 use lib.ListN.{length}
 use lib.Dec.{eqb, ltb}
+use lib.IntN.{ℤ}
 use Rattle.format.specs.Bytes.{anyOf, shifted}
 use Rattle.format.specs.Entry.{pixelType, pixelBytes}
 use Rattle.format.specs.Checks.{Check, row, rowsBelow}
@@ -20,9 +21,12 @@ masksOn NotChosen = false
 masksOn On = true
 masksOn Off = false
 
--- the window in plane coordinates
+-- the window in plane coordinates, which are the signed ones plus 2 ^ 31
+abbrev pub windowOf : ℤ → ℤ → ℕ → ℕ → Rect
+windowOf left top width height = record { left = shifted left; top = shifted top; width = width; height = height }
+
 abbrev pub requestWindow : WindowRequest → Rect
-requestWindow f = record { left = shifted (f .left); top = shifted (f .top); width = f .width; height = f .height }
+requestWindow f = windowOf (f .left) (f .top) (f .width) (f .height)
 
 -- ---- ask
 

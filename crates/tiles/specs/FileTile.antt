@@ -34,7 +34,7 @@ rectangle bs e = record {
   height = size bs (letterPlace bs e 89);
 }
 
--- a rectangle meets the window: the two share a pixel
+-- a rectangle and a window, each of which has a pixel, meet: they share one
 unfoldable pub meets : Rect → Rect → Bool
 meets a w =
     (ltb (w .left) (a .left + a .width) && ltb (a .left) (w .left + w .width)) &&

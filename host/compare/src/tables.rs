@@ -115,7 +115,7 @@ fn check_lent(
             Answer {
                 number: if is_short { 22 } else { 0 },
                 place: 0,
-                value: rows.count,
+                value: if is_short { 0 } else { rows.count },
             }
         }
     };

@@ -40,7 +40,7 @@ fn table(function: Table, file: &[u8], numbers: &mut [u64], starts: &mut [i32]) 
 /// The records of all tiles, [`TILE_NUMBERS`](super::TILE_NUMBERS) and
 /// [`TILE_STARTS`](super::TILE_STARTS) for each; 22 where an array is too short.
 /// What is past them stays, and all where refused. Answers how many tiles there
-/// are, where it is refused with 22 too.
+/// are, 0 where refused.
 pub fn tiles(file: &[u8], numbers: &mut [u64], starts: &mut [i32]) -> Answer<u64> {
     table(ffi::czi_tiles, file, numbers, starts)
 }
