@@ -175,6 +175,9 @@ enum {
     CZI_TILE_NUMBERS = 22            /* how many there are */
 };
 
+/* The most tiles that a file has which is not refused. */
+enum { CZI_MOST_TILES = 4096 };
+
 /* What stands where in starts. */
 enum {
     CZI_TILE_X_START = 0,

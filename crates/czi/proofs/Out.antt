@@ -10,7 +10,8 @@ use lib.Signed.{mag}
 use mir.Syntax.{w32}
 use mir.Val.{ofZ, toZ}
 use Rattle.format.specs.Checks.{numberOf, placeOf}
-use Rattle.format.specs.Answers.{VerdictAnswered, SpanAnswered, TileAnswered, DimensionAnswered, AttachmentAnswered, spanVerdict, spanIn, dimensionVerdictIn, dimensionIn}
+use Rattle.format.specs.Answers.{VerdictAnswered, SpanAnswered, TileAnswered, DimensionAnswered, AttachmentAnswered}
+use Rattle.format.specs.Answers.{spanVerdict, spanIn, dimensionVerdictIn, dimensionIn}
 use Rattle.format.specs.declared.Verdict.{Verdict}
 use Rattle.format.specs.declared.Verdict.the-variants.{Accepted, Refused}
 use Rattle.format.specs.declared.Span.{Span}
