@@ -95,10 +95,10 @@ pub fn copy_out(out: &mut [u8], s: &[u8], p: u64)
     requires { ⌜ p + length (now out) ≤ length (now s) ⌝ }
     ensures { λ _. ⌜ now (out .exit) ≡ partOf (now (s .entry)) p (length (now (out .entry))) ⌝ }
 {
-    let from = p as usize;
+    let at = p as usize;
     let mut i: usize = 0;
     while i < out.len() {
-        out[i] = s[from + i];
+        out[i] = s[at + i];
         i += 1;
     }
 }

@@ -7,10 +7,10 @@ use Rattle.fields.proofs.copy_out.Statement.{statement}
 use Rattle.fields.proofs.copy_out.Tie as tie
 
 abbrev Inv-loop : tie.InvT-loop
-Inv-loop out₀ s p from i₀ out i = Copying out₀ s p out i
+Inv-loop out₀ s p at i₀ out i = Copying out₀ s p out i
 
 abbrev μ-loop : tie.MeasureT-loop
-μ-loop out₀ s p from i₀ out i = length out₀ - i
+μ-loop out₀ s p at i₀ out i = length out₀ - i
 
 loop-again : tie.Need-loop-again Inv-loop μ-loop
 loop-again c = search copying-next
