@@ -1,6 +1,6 @@
 -- `attachments::judge_attachment_entry` meets its contract.
 use Prim.Native.Nat.{ℕ}
-use mathlib.Core.Path.{_≡_, refl, sym, ap, _∙_}
+use mathlib.Core.Path.{_≡_, sym, ap, _∙_}
 use mathlib.Core.List.{List}
 use mathlib.Core.Bool.{Bool, true, false, not}
 use denote.Ref.{now}
@@ -92,7 +92,7 @@ refused-at m p q i = ap (Refused m) i
 
 returns : tie.Need-returns
 unfolding attachmentEntryRows
-returns c = search (cond-true, is-true, refl)
+returns c = search (cond-true, is-true)
 
 returns-2 : tie.Need-returns-2
 unfolding attachmentEntryRows

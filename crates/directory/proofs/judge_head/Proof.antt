@@ -2,7 +2,7 @@
 use Prim.Native.Nat.{_+_}
 use denote.Ref.{now}
 use lib.Dec.{ltb}
-use mathlib.Core.Path.{_≡_, refl}
+use mathlib.Core.Path.{_≡_}
 use mathlib.Core.Bool.{true, false}
 use native.Mathlib.Omega.{arith}
 use borrow.Author.Needs.{needs}
@@ -44,7 +44,7 @@ passed-3 c = search le-both
 
 returns : tie.Need-returns
 unfolding headRows
-returns c = search (cond-true, lt-yes, refl)
+returns c = search (cond-true, lt-yes)
 
 head-bad-requires : tie.Need-head-bad-requires
 unfolding roomEnd

@@ -1,6 +1,6 @@
 -- `directory::judge_sub_block` meets its contract.
 use denote.Ref.{now}
-use mathlib.Core.Path.{_≡_, refl}
+use mathlib.Core.Path.{_≡_}
 use mathlib.Core.Bool.{true, false}
 use borrow.Author.Needs.{needs}
 use Rattle.format.proofs.Flags.{cond-true, is-true, is-false}
@@ -31,7 +31,7 @@ passed-2 c = search is-false
 
 returns : tie.Need-returns
 unfolding subBlockRows
-returns c = search (cond-true, is-true, refl)
+returns c = search (cond-true, is-true)
 
 returns-2 : tie.Need-returns-2
 unfolding subBlockRows

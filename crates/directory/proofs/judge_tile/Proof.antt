@@ -1,6 +1,6 @@
 -- `directory::judge_tile` meets its contract.
 use Prim.Native.Nat.{ℕ}
-use mathlib.Core.Path.{_≡_, refl}
+use mathlib.Core.Path.{_≡_}
 use mathlib.Core.List.{List}
 use denote.Ref.{now}
 use mathlib.Core.Bool.{Bool, true, false, not}
@@ -87,7 +87,7 @@ passed-5 c = search named-is
 
 returns : tie.Need-returns
 unfolding tileRows
-returns c = search (cond-true, is-true, refl)
+returns c = search (cond-true, is-true)
 
 returns-2 : tie.Need-returns-2
 unfolding tileRows

@@ -1,6 +1,6 @@
 -- `judge::judge_file` meets its contract.
 use Prim.Native.Nat.{ℕ}
-use mathlib.Core.Path.{_≡_, refl, sym, _∙_}
+use mathlib.Core.Path.{_≡_, sym, _∙_}
 use mathlib.Core.List.{List}
 use mathlib.Core.Bool.{Bool, true, false, not}
 use lib.Dec.{eqb}
@@ -99,7 +99,7 @@ passed-6 c =
 
 returns : tie.Need-returns
 unfolding fileRows
-returns c = search (cond-true, other-than, refl)
+returns c = search (cond-true, other-than)
 
 returns-2 : tie.Need-returns-2
 unfolding fileRows
