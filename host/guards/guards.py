@@ -13,7 +13,7 @@ file in one run; the other lines say what each block is for:
 
 guard:  a name, once in its crate.
 of:     what it guards: rows of the refusal table by number, with condition, place or order; or a try in words. More, by ';'.
-at:     the function, or the file of laws, and the need, or the law, at which it must be refused.
+at:     the function, or the file of laws, and the need, the fact that it rests on, or the law, at which it must be refused.
 why:    why that need is false then. Needed where the prover names no numbers at which it fails.
 A block may have several old:/new: pairs: two tests that change places.
 """
@@ -118,15 +118,20 @@ def entries(log):
     return found
 
 
+def messages(guard, log):
+    """What a check's log says against the guard's need."""
+    function, need = guard.at.split()
+    return [m for file, name, m in entries(log) if name == need and (file == function or file.endswith("/" + function))]
+
+
 def refusal(guard, log):
     """How the guard was refused: numbers, search or types; or what is wrong, and then None."""
-    function, need = guard.at.split()
-    messages = [m for file, name, m in entries(log) if name == need and (file == function or file.endswith("/" + function))]
-    if not messages:
-        return None, f"no error at {function} {need}"
-    for message in messages:
+    found = messages(guard, log)
+    if not found:
+        return None, f"no error at {guard.at}"
+    for message in found:
         if not any(void in message for void in VOID):
             if NUMBERS in message:
                 return "numbers", ""
             return ("search" if "`search`" in message else "types"), ""
-    return None, f"{function} {need} was refused for its text alone: {messages[0].splitlines()[0][:160]}"
+    return None, f"{guard.at} was refused for its text alone: {found[0].splitlines()[0][:160]}"

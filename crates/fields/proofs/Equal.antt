@@ -1,5 +1,5 @@
 -- Bytes compared without a branch: their differences joined by `|` are 0 just where all are equal. Assumes nothing.
-use Prim.Native.Nat.{ℕ, zero, suc, _+_}
+use Prim.Native.Nat.{ℕ, zero, suc, _+_, _≤_}
 use mathlib.Core.Path.{_≡_, refl, sym, ap, _∙_}
 use mathlib.Core.Bool.{Bool, true, false, _&&_}
 use native.Mathlib.Omega.{arith}
@@ -9,9 +9,23 @@ use lib.Dec.{eqb}
 use borrow.Author.Tests.{eq-eqb, ne-eqb, eqb-true, eqb-false}
 use Rattle.format.specs.Bytes.{allBelow}
 
-or-is-zero : (a b : ℕ) → eqb (bitOr a b) 0 ≡ (eqb a 0 && eqb b 0)
-or-is-zero zero b = refl
-or-is-zero (suc a) b = rw (ne-eqb (suc a) 0 (λ e. omega arith)) (ne-eqb (bitOr (suc a) b) 0 (λ e. omega (arith, or-add-and (suc a) b, and-le-r (suc a) b)))
+-- a number that lies as the bits of a or b do, between each of them and their sum
+pub record Between (a b w : ℕ) : Type 0 where
+  pub left : a ≤ w
+  pub right : b ≤ w
+  pub sum : w ≤ a + b
+
+pub or-between : (a b : ℕ) → Between a b (bitOr a b)
+or-between a b =
+    let s = or-add-and a b in
+    record { left = omega (arith, s, and-le-r a b); right = omega (arith, s, and-le-l a b); sum = omega (arith, s) }
+
+pub or-between′ : (a b : ℕ) → Between a b (bitOr b a)
+or-between′ a b = let h = or-between b a in record { left = h .right; right = h .left; sum = omega (arith, h .sum) }
+
+between-is-zero : (a b w : ℕ) → Between a b w → eqb w 0 ≡ (eqb a 0 && eqb b 0)
+between-is-zero zero b w h = let e : w ≡ b = omega (arith, h .right, h .sum) in rw e
+between-is-zero (suc a) b w h = rw (ne-eqb (suc a) 0 (λ e. omega arith)) (ne-eqb w 0 (λ e. omega (arith, h .left)))
 
 xor-is-zero : (a b : ℕ) → eqb (bitXor a b) 0 ≡ eqb a b
 xor-is-zero a b = go (eqb a b) refl
@@ -28,6 +42,6 @@ pub none-joined : (x y : ℕ → ℕ) → Joined x y 0 0
 unfolding allBelow
 none-joined x y = record { same = refl }
 
-pub one-joined : (x y : ℕ → ℕ) (i off : ℕ) → Joined x y i off → Joined x y (i + 1) (bitOr off (bitXor (x i) (y i)))
+pub one-joined : (x y : ℕ → ℕ) (i off w : ℕ) → Joined x y i off → Between off (bitXor (x i) (y i)) w → Joined x y (i + 1) w
 unfolding allBelow
-one-joined x y i off j = record { same = rw (add-one, ← j .same, ← xor-is-zero (x i) (y i)) (or-is-zero off (bitXor (x i) (y i))) }
+one-joined x y i off w j h = record { same = rw (add-one, ← j .same, ← xor-is-zero (x i) (y i)) (between-is-zero off (bitXor (x i) (y i)) w h) }

@@ -49,10 +49,10 @@ module _ (bs : List ℕ) (t : Text) where
   unfolding listingOf
   listing-long h s = (s .clean, s .text ∙ rw (lt-ltb 65536 (length bs) h))
 
-  pub listing-refused : (v : Verdict) (n p : ℕ) → length bs ≤ 65536 → v ≡ verdict (scanOf bs) → v ≡ Refused n p → Says t (refusalText n p)
+  pub listing-refused : (v : Verdict) (n p : ℕ) → v ≡ verdict (scanOf bs) → v ≡ Refused n p → Says t (refusalText n p) → length bs ≤ 65536
       → Clean t × (textOf t ≡ listingOf bs)
   unfolding listingOf
-  listing-refused v n p h j e s = (s .clean, s .text ∙ rw (le-ltb 65536 (length bs) h, ← j, e))
+  listing-refused v n p j e s h = (s .clean, s .text ∙ rw (le-ltb 65536 (length bs) h, ← j, e))
 
   pub listing-accepted : (f : Figures) → length bs ≤ 65536 → verdict (scanOf bs) ≡ Accepted → f ≡ figuresOf bs → Says t (textBy f)
       → Clean t × (textOf t ≡ listingOf bs)

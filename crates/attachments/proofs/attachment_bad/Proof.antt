@@ -1,4 +1,6 @@
 -- `attachments::attachment_bad` meets its contract.
+use Prim.Native.Nat.{_<_}
+use native.Mathlib.Omega.{arith}
 use Rattle.format.proofs.Flags.{flags}
 use Rattle.format.specs.Attachments.{attachmentBad}
 use borrow.Author.Needs.{needs}
@@ -7,7 +9,7 @@ use Rattle.attachments.proofs.attachment_bad.Tie as tie
 
 returns : tie.Need-returns
 unfolding attachmentBad
-returns c = search flags depth 8
+returns c = let h : c .before .room-at .result < 256 = omega arith in search flags depth 8
 
 returns-2 : tie.Need-returns-2
 unfolding attachmentBad

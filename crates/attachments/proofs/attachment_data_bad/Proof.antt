@@ -1,4 +1,6 @@
 -- `attachments::attachment_data_bad` meets its contract.
+use Prim.Native.Nat.{_+_, _<_, _≤_}
+use native.Mathlib.Omega.{arith}
 use Rattle.format.proofs.Flags.{flags}
 use Rattle.format.specs.Attachments.{attachmentDataBad}
 use borrow.Author.Needs.{needs}
@@ -7,15 +9,22 @@ use Rattle.attachments.proofs.attachment_data_bad.Tie as tie
 
 returns : tie.Need-returns
 unfolding attachmentDataBad
-returns c = search flags depth 8
+returns c = let h : 2147483648 ≤ c .before .attachment-data-size .result = omega arith in search flags depth 8
 
 returns-2 : tie.Need-returns-2
 unfolding attachmentDataBad
-returns-2 c = rw (← c .before .before .before .attachment-data-size .ensures .0) (search flags depth 8)
+returns-2 c =
+    let n = c .before .before .before .attachment-data-size in
+    let h : c .before .room-at .result < 256 + n .result = omega arith in
+    rw (← n .ensures .0) (search flags depth 8)
 
 returns-3 : tie.Need-returns-3
 unfolding attachmentDataBad
-returns-3 c = rw (← c .before .before .before .attachment-data-size .ensures .0) (search flags depth 8)
+returns-3 c =
+    let n = c .before .before .before .attachment-data-size in
+    let h : 256 + n .result ≤ c .before .room-at .result = omega arith in
+    let positive : n .result < 2147483648 = omega arith in
+    rw (← n .ensures .0) (search flags depth 8)
 
 pub attachment-data-bad-spec : {M : Type 1} → statement M
 attachment-data-bad-spec =

@@ -1,66 +1,131 @@
 -- `attachments::judge_attachment_entry` meets its contract.
 use Prim.Native.Nat.{ℕ}
-use mathlib.Core.Path.{_≡_, refl, sym, ap, _∙_}
+use mathlib.Core.Path.{_≡_, sym, ap, _∙_}
 use mathlib.Core.List.{List}
 use mathlib.Core.Bool.{Bool, true, false, not}
+use denote.Ref.{now}
+use lib.Dec.{eqb}
 use native.Mathlib.Omega.{arith}
 use Rattle.format.specs.Segments.{walkedAs}
 use Rattle.format.specs.Names.{nameAttachment}
-use Rattle.format.specs.Attachments.{attachmentEntryBad, attachmentBad, attachmentDataBad, attachmentEntryRows}
+use Rattle.format.specs.Attachments.{attachmentPosition, attachmentPart, attachmentEntryBad, attachmentBad, attachmentDataBad, attachmentEntryRows}
 use Rattle.format.specs.declared.Verdict.the-variants.{Refused}
-use Rattle.format.proofs.Flags.{cond-true, cond-false, is-true-not, is-false-not, not-is-true, not-is-false, eq-yes, eq-no}
+use Rattle.format.proofs.Flags.{cond-true, is-true, is-false, not-is-true, not-is-false, eq-yes, eq-no}
 use Rattle.attachments.proofs.AttachmentLaws.{walked-in, attachment-fits}
 use borrow.Author.Needs.{needs}
 use Rattle.attachments.proofs.judge_attachment_entry.Statement.{statement}
 use Rattle.attachments.proofs.judge_attachment_entry.Tie as tie
 
--- what was answered by r of the entry at e
-entry-is : (bs : List ℕ) (e : ℕ) (r v : Bool) → r ≡ attachmentEntryBad bs e → r ≡ v → attachmentEntryBad bs e ≡ v
-entry-is bs e r v f h = sym f ∙ h
+-- a test of the field a that was read as r
+module _ (r a : ℕ) (i : r ≡ a) where
+  other-than-0 : (r ≡ 0 → ⊥) → not (eqb a 0) ≡ true
+  other-than-0 h = not-is-true _ (eq-no r a 0 i h)
 
--- and of the position p that was read, which is q
-module _ (bs : List ℕ) (p q : ℕ) (i : p ≡ q) (r : Bool) where
-  walked-no : (name : List ℕ) → r ≡ walkedAs bs p name → not r ≡ true → walkedAs bs q name ≡ false
-  walked-no name f h = rw (← i) (is-false-not r _ f h)
+  is-0 : r ≡ 0 → not (eqb a 0) ≡ false
+  is-0 h = not-is-false _ (eq-yes r a 0 i h)
 
-  walked-yes : (name : List ℕ) → r ≡ walkedAs bs p name → not r ≡ false → walkedAs bs q name ≡ true
-  walked-yes name f h = rw (← i) (is-true-not r _ f h)
+-- of the position p that was read, which is q, by the answer r
+module _ (bs : List ℕ) (p q : ℕ) (i : p ≡ q) (r v : Bool) where
+  walked-is : (name : List ℕ) → r ≡ walkedAs bs p name → not r ≡ v → not (walkedAs bs q name) ≡ v
+  walked-is name f h = rw (← i, ← f) h
 
-  copy-is : (e : ℕ) (v : Bool) → r ≡ attachmentBad bs e bs p → r ≡ v → attachmentBad bs e bs q ≡ v
-  copy-is e v f h = rw (← i) (sym f ∙ h)
+  copy-is : (e : ℕ) → r ≡ attachmentBad bs e bs p → r ≡ v → attachmentBad bs e bs q ≡ v
+  copy-is e f h = rw (← i) (sym f ∙ h)
 
-  data-is : (v : Bool) → r ≡ attachmentDataBad bs p → r ≡ v → attachmentDataBad bs q ≡ v
-  data-is v f h = rw (← i) (sym f ∙ h)
+  data-is : r ≡ attachmentDataBad bs p → r ≡ v → attachmentDataBad bs q ≡ v
+  data-is f h = rw (← i) (sym f ∙ h)
 
--- a refusal at it
+-- ---- where a test is taken its row is given; behind it, it is not. Each of these rests on its own test alone.
+
+passed-1 : (c : tie.Else1)
+    → let a = c .before .before .before .args in
+    attachmentEntryBad (now (a .s)) (a .e) ≡ false
+passed-1 c = is-false _ _ (c .before .attachment-entry-bad .ensures) (c .if1 .left)
+
+taken-2 : (c : tie.Then2)
+    → let a = c .before .before .before .before .before .args in
+    not (eqb (attachmentPart (now (a .s)) (a .e)) 0) ≡ true
+taken-2 c = search other-than-0
+
+passed-2 : (c : tie.Else2)
+    → let a = c .before .before .before .before .before .args in
+    not (eqb (attachmentPart (now (a .s)) (a .e)) 0) ≡ false
+passed-2 c = is-0 _ _ (c .before .attachment-part .ensures .0) (c .if2 .left)
+
+taken-3 : (c : tie.Then3)
+    → let a = c .before .before .before .before .before .before .before .before .before .args in
+    not (walkedAs (now (a .s)) (attachmentPosition (now (a .s)) (a .e)) nameAttachment) ≡ true
+unfolding nameAttachment
+taken-3 c = search walked-is
+
+passed-3 : (c : tie.Else3)
+    → let a = c .before .before .before .before .before .before .before .before .before .args in
+    not (walkedAs (now (a .s)) (attachmentPosition (now (a .s)) (a .e)) nameAttachment) ≡ false
+unfolding nameAttachment
+passed-3 c = walked-is _ _ _ (c .before .before .before .attachment-position .ensures) _ _ _ (c .before .walked-as .ensures) (c .if3 .left)
+
+taken-4 : (c : tie.Then4)
+    → let a = c .before .before .before .before .before .before .before .before .before .before .before .args in
+    attachmentBad (now (a .s)) (a .e) (now (a .s)) (attachmentPosition (now (a .s)) (a .e)) ≡ true
+taken-4 c = search copy-is
+
+passed-4 : (c : tie.Else4)
+    → let a = c .before .before .before .before .before .before .before .before .before .before .before .args in
+    attachmentBad (now (a .s)) (a .e) (now (a .s)) (attachmentPosition (now (a .s)) (a .e)) ≡ false
+passed-4 c = search copy-is
+
+taken-5 : (c : tie.Then5)
+    → let a = c .before .before .before .before .before .before .before .before .before .before .before .before .before .args in
+    attachmentDataBad (now (a .s)) (attachmentPosition (now (a .s)) (a .e)) ≡ true
+taken-5 c = search data-is
+
+passed-5 : (c : tie.Else5)
+    → let a = c .before .before .before .before .before .before .before .before .before .before .before .before .before .args in
+    attachmentDataBad (now (a .s)) (attachmentPosition (now (a .s)) (a .e)) ≡ false
+passed-5 c = search data-is
+
+-- ---- the answers
+
+-- a refusal at the position that was read
 refused-at : (m p q : ℕ) → p ≡ q → Refused m p ≡ Refused m q
 refused-at m p q i = ap (Refused m) i
 
-ruleset tests = (cond-true, cond-false, not-is-true, not-is-false, eq-yes, eq-no, entry-is, walked-no, walked-yes, copy-is, data-is, refused-at, refl)
-
 returns : tie.Need-returns
-unfolding attachmentEntryRows nameAttachment
-returns c = search tests depth 10
+unfolding attachmentEntryRows
+returns c = search (cond-true, is-true)
 
 returns-2 : tie.Need-returns-2
-unfolding attachmentEntryRows nameAttachment
-returns-2 c = search tests depth 10
+unfolding attachmentEntryRows
+returns-2 c = rw (taken-2 c, passed-1 (c .before .before))
 
 returns-3 : tie.Need-returns-3
-unfolding attachmentEntryRows nameAttachment
-returns-3 c = search tests depth 10
+unfolding attachmentEntryRows
+returns-3 c =
+    let e2 = c .before .before .before .before in
+    rw (taken-3 c, passed-2 e2, passed-1 (e2 .before .before))
 
 returns-4 : tie.Need-returns-4
-unfolding attachmentEntryRows nameAttachment
-returns-4 c = search tests depth 10
+unfolding attachmentEntryRows
+returns-4 c =
+    let e3 = c .before .before in
+    let e2 = e3 .before .before .before .before in
+    rw (taken-4 c, passed-3 e3, passed-2 e2, passed-1 (e2 .before .before)) (search refused-at)
 
 returns-5 : tie.Need-returns-5
-unfolding attachmentEntryRows nameAttachment
-returns-5 c = search tests depth 10
+unfolding attachmentEntryRows
+returns-5 c =
+    let e4 = c .before .before in
+    let e3 = e4 .before .before in
+    let e2 = e3 .before .before .before .before in
+    rw (taken-5 c, passed-4 e4, passed-3 e3, passed-2 e2, passed-1 (e2 .before .before)) (search refused-at)
 
 returns-6 : tie.Need-returns-6
-unfolding attachmentEntryRows nameAttachment
-returns-6 c = search tests depth 10
+unfolding attachmentEntryRows
+returns-6 c =
+    let e4 = c .before .before in
+    let e3 = e4 .before .before in
+    let e2 = e3 .before .before .before .before in
+    rw (passed-5 c, passed-4 e4, passed-3 e3, passed-2 e2, passed-1 (e2 .before .before))
 
 pub judge-attachment-entry-spec : {M : Type 1} → statement M
 unfolding nameAttachment

@@ -1,12 +1,14 @@
 -- `attachments::judge_attachments` meets its contract.
 use Prim.Native.Nat.{_≤_}
+use mathlib.Core.Path.{_≡_}
+use mathlib.Core.Bool.{true}
 use native.Mathlib.Omega.{arith}
 use denote.Ref.{now}
 use lib.ListN.{length}
 use borrow.Author.Tests.{eq-eqb, ne-eqb}
 use Rattle.format.specs.Segments.{RoomIn}
-use Rattle.format.specs.Attachments.{attachmentEntryCount, attachmentEntry, attachmentDirectoryRows, attachmentsRows}
-use Rattle.format.proofs.Flags.{flags, is-false}
+use Rattle.format.specs.Attachments.{attachmentEntryCount, attachmentEntry, attachmentDirectoryBad, attachmentDirectoryRows, attachmentsRows}
+use Rattle.format.proofs.Flags.{is-true, is-false}
 use Rattle.attachments.proofs.AttachmentLaws.{absent, present, named-room, entries-within}
 use borrow.Author.Needs.{needs}
 use Rattle.attachments.proofs.judge_attachments.Statement.{statement}
@@ -23,6 +25,11 @@ within : (c : tie.Else2)
     attachmentEntry (u .attachment-directory-position .result) (attachmentEntryCount bs (u .attachment-directory-position .result)) ≤ length bs
 within c = entries-within _ _ (room-in (c .before .before)) (is-false _ _ (c .before .attachment-directory-bad .ensures) (c .if2 .left))
 
+-- where the second test is taken its row is given
+taken-2 : (c : tie.Then2)
+    → attachmentDirectoryBad (now (c .before .before .before .before .before .args .s)) (c .before .before .before .attachment-directory-position .result) ≡ true
+taken-2 c = search is-true
+
 returns : tie.Need-returns
 unfolding attachmentsRows attachmentDirectoryRows
 returns c = rw (← c .before .attachment-directory-position .ensures) (absent _ _ (eq-eqb _ _ (c .if1 .taken)))
@@ -31,7 +38,7 @@ returns-2 : tie.Need-returns-2
 unfolding attachmentsRows attachmentDirectoryRows
 returns-2 c =
     let k = c .before .before in
-    rw (← k .before .attachment-directory-position .ensures) (present _ _ _ (ne-eqb _ _ (k .if1 .left)) (search flags depth 8))
+    rw (← k .before .attachment-directory-position .ensures) (present _ _ _ (ne-eqb _ _ (k .if1 .left)) (rw (taken-2 c)))
 
 returns-3 : tie.Need-returns-3
 unfolding attachmentsRows attachmentDirectoryRows

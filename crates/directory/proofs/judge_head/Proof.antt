@@ -1,31 +1,66 @@
 -- `directory::judge_head` meets its contract.
+use Prim.Native.Nat.{_+_}
+use denote.Ref.{now}
+use lib.Dec.{ltb}
+use mathlib.Core.Path.{_≡_}
+use mathlib.Core.Bool.{true, false}
 use native.Mathlib.Omega.{arith}
 use borrow.Author.Needs.{needs}
-use Rattle.format.proofs.Flags.{flags}
+use Rattle.format.proofs.Flags.{cond-true, is-true, is-false, lt-yes, lt-no}
 use Rattle.segments.proofs.Leaves.{lt-both, le-both}
+use Rattle.format.specs.Entry.{headBad, nextEntry}
 use Rattle.format.specs.Directory.{roomEnd, headRows}
 use Rattle.directory.proofs.judge_head.Statement.{statement}
 use Rattle.directory.proofs.judge_head.Tie as tie
 
+-- ---- where a test is taken its row is given; behind it, it is not. Each of these rests on its own test alone.
+
+passed-1 : (c : tie.Else1)
+    → let a = c .before .before .before .args in
+    ltb (roomEnd (now (a .s)) (a .d)) (a .e + 32) ≡ false
+passed-1 c = lt-no _ _ _ (c .before .room-end .ensures) (c .if1 .left)
+
+taken-2 : (c : tie.Then2)
+    → let a = c .before .before .before .before .before .args in
+    headBad (now (a .s)) (a .e) ≡ true
+taken-2 c = search is-true
+
+passed-2 : (c : tie.Else2)
+    → let a = c .before .before .before .before .before .args in
+    headBad (now (a .s)) (a .e) ≡ false
+passed-2 c = is-false _ _ (c .before .head-bad .ensures) (c .if2 .left)
+
+taken-3 : (c : tie.Then3)
+    → let a = c .before .before .before .before .before .before .before .args in
+    ltb (roomEnd (now (a .s)) (a .d)) (nextEntry (now (a .s)) (a .e)) ≡ true
+taken-3 c = search lt-both
+
+passed-3 : (c : tie.Else3)
+    → let a = c .before .before .before .before .before .before .before .args in
+    ltb (roomEnd (now (a .s)) (a .d)) (nextEntry (now (a .s)) (a .e)) ≡ false
+passed-3 c = search le-both
+
+-- ---- the answers
+
 returns : tie.Need-returns
-unfolding roomEnd headRows
-returns c = search flags depth 8
+unfolding headRows
+returns c = search (cond-true, lt-yes)
 
 head-bad-requires : tie.Need-head-bad-requires
-unfolding roomEnd headRows
+unfolding roomEnd
 head-bad-requires c κs = omega arith
 
 returns-2 : tie.Need-returns-2
-unfolding roomEnd headRows
-returns-2 c = search flags depth 8
+unfolding headRows
+returns-2 c = rw (taken-2 c, passed-1 (c .before .before))
 
 returns-3 : tie.Need-returns-3
-unfolding roomEnd headRows
-returns-3 c = search (flags, lt-both, le-both) depth 8
+unfolding headRows
+returns-3 c = let k = c .before .before in rw (taken-3 c, passed-2 k, passed-1 (k .before .before))
 
 returns-4 : tie.Need-returns-4
-unfolding roomEnd headRows
-returns-4 c = search (flags, lt-both, le-both) depth 8
+unfolding headRows
+returns-4 c = let k = c .before .before in rw (passed-3 c, passed-2 k, passed-1 (k .before .before))
 
 pub judge-head-spec : {M : Type 1} → statement M
 unfolding roomEnd

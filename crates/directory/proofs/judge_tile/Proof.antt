@@ -1,13 +1,16 @@
 -- `directory::judge_tile` meets its contract.
 use Prim.Native.Nat.{ℕ}
-use mathlib.Core.Path.{_≡_, refl, sym, _∙_}
+use mathlib.Core.Path.{_≡_}
 use mathlib.Core.List.{List}
+use denote.Ref.{now}
 use mathlib.Core.Bool.{Bool, true, false, not}
 use lib.Dec.{eqb}
 use borrow.Author.Needs.{needs}
-use Rattle.format.proofs.Flags.{cond-true, cond-false, not-is-true, not-is-false, eq-yes, eq-no}
+use Rattle.format.proofs.Flags.{cond-true, is-true, is-false, not-is-true, not-is-false, eq-yes, eq-no}
+use Rattle.format.specs.Scan.{scanOf, blockFile}
+use Rattle.format.specs.Names.{nameSubBlock}
 use Rattle.format.specs.Segments.{walkedAs}
-use Rattle.format.specs.Entry.{pixelType, pixelBytes, dimensionsBad}
+use Rattle.format.specs.Entry.{pixelType, pixelBytes, compression, entryPart, filePosition, dimensionsBad}
 use Rattle.format.specs.Directory.{tileRows}
 use Rattle.directory.proofs.Stages.{fixed-in}
 use Rattle.directory.proofs.judge_tile.Statement.{statement}
@@ -29,39 +32,93 @@ module _ (r a : ℕ) (i : r ≡ a) where
   is-0 : r ≡ 0 → not (eqb a 0) ≡ false
   is-0 h = not-is-false _ (eq-yes r a 0 i h)
 
--- of what was answered by r
-module _ (bs : List ℕ) (p : ℕ) (r v : Bool) where
-  dimensions-are : r ≡ dimensionsBad bs p → r ≡ v → dimensionsBad bs p ≡ v
-  dimensions-are f h = sym f ∙ h
+-- of the segment that r tells of
+named-is : (bs : List ℕ) (p : ℕ) (name : List ℕ) (r v : Bool) → r ≡ walkedAs bs p name → not r ≡ v → not (walkedAs bs p name) ≡ v
+named-is bs p name r v f h = rw (← f) h
 
-  named-is : (name : List ℕ) → r ≡ walkedAs bs p name → not r ≡ v → not (walkedAs bs p name) ≡ v
-  named-is name f h = rw (← f) h
+-- ---- where a test is taken its row is given; behind it, it is not. Each of these rests on its own test alone.
 
-ruleset tests = (cond-true, cond-false, type-none, type-some, other-than-0, is-0, dimensions-are, named-is, refl)
+passed-1 : (c : tie.Else1)
+    → let a = c .before .before .before .args in
+    dimensionsBad (now (a .s)) (a .e) ≡ false
+passed-1 c = is-false _ _ (c .before .dimensions-bad .ensures) (c .if1 .left)
+
+taken-2 : (c : tie.Then2)
+    → let a = c .before .before .before .before .before .before .args in
+    eqb (pixelBytes (pixelType (now (a .s)) (a .e))) 0 ≡ true
+taken-2 c = search type-none
+
+passed-2 : (c : tie.Else2)
+    → let a = c .before .before .before .before .before .before .args in
+    eqb (pixelBytes (pixelType (now (a .s)) (a .e))) 0 ≡ false
+passed-2 c = type-some _ _ _ _ (c .before .before .pixel-type .ensures .0) (c .before .pixel-bytes .ensures) (c .if2 .left)
+
+taken-3 : (c : tie.Then3)
+    → let a = c .before .before .before .before .before .before .before .before .args in
+    not (eqb (compression (now (a .s)) (a .e)) 0) ≡ true
+taken-3 c = search other-than-0
+
+passed-3 : (c : tie.Else3)
+    → let a = c .before .before .before .before .before .before .before .before .args in
+    not (eqb (compression (now (a .s)) (a .e)) 0) ≡ false
+passed-3 c = is-0 _ _ (c .before .compression .ensures .0) (c .if3 .left)
+
+taken-4 : (c : tie.Then4)
+    → let a = c .before .before .before .before .before .before .before .before .before .before .args in
+    not (eqb (entryPart (now (a .s)) (a .e)) 0) ≡ true
+taken-4 c = search other-than-0
+
+passed-4 : (c : tie.Else4)
+    → let a = c .before .before .before .before .before .before .before .before .before .before .args in
+    not (eqb (entryPart (now (a .s)) (a .e)) 0) ≡ false
+passed-4 c = is-0 _ _ (c .before .file-part .ensures .0) (c .if4 .left)
+
+taken-5 : (c : tie.Then5)
+    → let a = c .before .before .before .before .before .before .before .before .before .before .before .args in
+    not (walkedAs (blockFile (scanOf (now (a .s))) (a .e)) (filePosition (now (a .s)) (a .e)) nameSubBlock) ≡ true
+taken-5 c = search named-is
+
+passed-5 : (c : tie.Else5)
+    → let a = c .before .before .before .before .before .before .before .before .before .before .before .args in
+    not (walkedAs (blockFile (scanOf (now (a .s))) (a .e)) (filePosition (now (a .s)) (a .e)) nameSubBlock) ≡ false
+passed-5 c = search named-is
+
+-- ---- the answers
 
 returns : tie.Need-returns
 unfolding tileRows
-returns c = search tests depth 10
+returns c = search (cond-true, is-true)
 
 returns-2 : tie.Need-returns-2
 unfolding tileRows
-returns-2 c = search tests depth 10
+returns-2 c = rw (taken-2 c, passed-1 (c .before .before .before))
 
 returns-3 : tie.Need-returns-3
 unfolding tileRows
-returns-3 c = search tests depth 10
+returns-3 c = let k = c .before .before in rw (taken-3 c, passed-2 k, passed-1 (k .before .before .before))
 
 returns-4 : tie.Need-returns-4
 unfolding tileRows
-returns-4 c = search tests depth 10
+returns-4 c =
+    let l = c .before .before in
+    let k = l .before .before in
+    rw (taken-4 c, passed-3 l, passed-2 k, passed-1 (k .before .before .before))
 
 returns-5 : tie.Need-returns-5
 unfolding tileRows
-returns-5 c = search tests depth 10
+returns-5 c =
+    let m = c .before in
+    let l = m .before .before in
+    let k = l .before .before in
+    rw (taken-5 c, passed-4 m, passed-3 l, passed-2 k, passed-1 (k .before .before .before))
 
 returns-6 : tie.Need-returns-6
 unfolding tileRows
-returns-6 c = search tests depth 10
+returns-6 c =
+    let m = c .before in
+    let l = m .before .before in
+    let k = l .before .before in
+    rw (passed-5 c, passed-4 m, passed-3 l, passed-2 k, passed-1 (k .before .before .before))
 
 pub judge-tile-spec : {M : Type 1} → statement M
 judge-tile-spec =

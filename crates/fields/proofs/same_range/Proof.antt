@@ -4,7 +4,7 @@ use mathlib.Core.Path.{_≡_}
 use native.Mathlib.Omega.{arith}
 use lib.ListN.{getD}
 use Rattle.format.specs.Bytes.{sameRange}
-use Rattle.fields.proofs.Equal.{Joined, none-joined, one-joined}
+use Rattle.fields.proofs.Equal.{Joined, none-joined, one-joined, or-between, or-between′}
 use Rattle.fields.proofs.same_range.Statement.{statement}
 use Rattle.fields.proofs.same_range.Tie as tie
 
@@ -36,7 +36,7 @@ loop-less : tie.Need-loop-less Inv-loop μ-loop
 loop-less c = omega arith
 
 loop-again : tie.Need-loop-again Inv-loop μ-loop
-loop-again c = (omega arith, one-joined _ _ _ _ (c .before .before .before .loop .inv .1))
+loop-again c = (omega arith, one-joined _ _ _ _ _ (c .before .before .before .loop .inv .1) (search (or-between, or-between′)))
 
 returns : tie.Need-returns Inv-loop μ-loop
 unfolding sameRange

@@ -1,10 +1,13 @@
 -- `judge::judge_file` meets its contract.
 use Prim.Native.Nat.{ℕ}
-use mathlib.Core.Path.{_≡_, refl, sym, _∙_}
+use mathlib.Core.Path.{_≡_, sym, _∙_}
 use mathlib.Core.List.{List}
-use mathlib.Core.Bool.{Bool}
-use Rattle.format.proofs.Flags.{cond-true, cond-false, not-is-true, not-is-false, eq-yes, eq-no}
+use mathlib.Core.Bool.{Bool, true, false, not}
+use lib.Dec.{eqb}
+use denote.Ref.{now}
+use Rattle.format.proofs.Flags.{cond-true, not-is-true, not-is-false, eq-yes, eq-no}
 use Rattle.format.specs.Names.{nameDirectory, nameMetadata, nameAttachmentDirectory}
+use Rattle.format.specs.File.{major, filePart, updatePending, directoryPosition, metadataPosition, attachmentDirectoryPosition}
 use Rattle.format.specs.File.{namesNone, namesNoneBut0, fileRows}
 use borrow.Author.Needs.{needs}
 use Rattle.judge.proofs.judge_file.Statement.{statement}
@@ -18,35 +21,135 @@ module _ (bs : List ℕ) (p q : ℕ) (name : List ℕ) (r v : Bool) (e : p ≡ q
   names-but-0-is : r ≡ namesNoneBut0 bs p name → r ≡ v → namesNoneBut0 bs q name ≡ v
   names-but-0-is f h = rw (← e) (sym f ∙ h)
 
-ruleset tests = (cond-true, cond-false, not-is-true, not-is-false, eq-yes, eq-no, names-is, names-but-0-is, refl)
+-- a test of the field a that was read as r
+module _ (r a b : ℕ) (i : r ≡ a) where
+  other-than : (r ≡ b → ⊥) → not (eqb a b) ≡ true
+  other-than h = not-is-true _ (eq-no r a b i h)
+
+  same-as : r ≡ b → not (eqb a b) ≡ false
+  same-as h = not-is-false _ (eq-yes r a b i h)
+
+-- ---- where a test is taken its row is given; behind it, it is not. Each of these rests on its own test alone.
+
+passed-1 : (c : tie.Else1)
+    → let a = c .before .before .before .args in
+    not (eqb (major (now (a .s))) 1) ≡ false
+passed-1 c = same-as _ _ _ (c .before .major .ensures .0) (c .if1 .left)
+
+taken-2 : (c : tie.Then2)
+    → let a = c .before .before .before .before .before .args in
+    not (eqb (filePart (now (a .s))) 0) ≡ true
+taken-2 c = search other-than
+
+passed-2 : (c : tie.Else2)
+    → let a = c .before .before .before .before .before .args in
+    not (eqb (filePart (now (a .s))) 0) ≡ false
+passed-2 c = same-as _ _ _ (c .before .file-part .ensures .0) (c .if2 .left)
+
+taken-3 : (c : tie.Then3)
+    → let a = c .before .before .before .before .before .before .before .args in
+    not (eqb (updatePending (now (a .s))) 0) ≡ true
+taken-3 c = search other-than
+
+passed-3 : (c : tie.Else3)
+    → let a = c .before .before .before .before .before .before .before .args in
+    not (eqb (updatePending (now (a .s))) 0) ≡ false
+passed-3 c = same-as _ _ _ (c .before .update-pending .ensures .0) (c .if3 .left)
+
+taken-4 : (c : tie.Then4)
+    → let a = c .before .before .before .before .before .before .before .before .before .before .before .args in
+    namesNone (now (a .s)) (directoryPosition (now (a .s))) nameDirectory ≡ true
+unfolding nameDirectory
+taken-4 c = search names-is
+
+passed-4 : (c : tie.Else4)
+    → let a = c .before .before .before .before .before .before .before .before .before .before .before .args in
+    namesNone (now (a .s)) (directoryPosition (now (a .s))) nameDirectory ≡ false
+unfolding nameDirectory
+passed-4 c = names-is _ _ _ _ _ _ (c .before .before .before .directory-position .ensures) (c .before .names-none .ensures) (c .if4 .left)
+
+taken-5 : (c : tie.Then5)
+    → let a = c .before .before .before .before .before .before .before .before .before .before .before .before .before .before .before .args in
+    namesNoneBut0 (now (a .s)) (metadataPosition (now (a .s))) nameMetadata ≡ true
+unfolding nameMetadata
+taken-5 c = search names-but-0-is
+
+passed-5 : (c : tie.Else5)
+    → let a = c .before .before .before .before .before .before .before .before .before .before .before .before .before .before .before .args in
+    namesNoneBut0 (now (a .s)) (metadataPosition (now (a .s))) nameMetadata ≡ false
+unfolding nameMetadata
+passed-5 c = names-but-0-is _ _ _ _ _ _ (c .before .before .before .metadata-position .ensures) (c .before .names-none-but-0 .ensures) (c .if5 .left)
+
+taken-6 : (c : tie.Then6)
+    → let e = c .before .before .before .before in
+    let a = e .before .before .before .before .before .before .before .before .before .before .before .before .before .before .before .args in
+    namesNoneBut0 (now (a .s)) (attachmentDirectoryPosition (now (a .s))) nameAttachmentDirectory ≡ true
+unfolding nameAttachmentDirectory
+taken-6 c = search names-but-0-is
+
+passed-6 : (c : tie.Else6)
+    → let e = c .before .before .before .before in
+    let a = e .before .before .before .before .before .before .before .before .before .before .before .before .before .before .before .args in
+    namesNoneBut0 (now (a .s)) (attachmentDirectoryPosition (now (a .s))) nameAttachmentDirectory ≡ false
+unfolding nameAttachmentDirectory
+passed-6 c =
+    names-but-0-is _ _ _ _ _ _ (c .before .before .before .attachment-directory-position .ensures) (c .before .names-none-but-02 .ensures) (c .if6 .left)
+
+-- ---- the answers
 
 returns : tie.Need-returns
-unfolding fileRows nameDirectory nameMetadata nameAttachmentDirectory
-returns c = search tests depth 10
+unfolding fileRows
+returns c = search (cond-true, other-than)
 
 returns-2 : tie.Need-returns-2
-unfolding fileRows nameDirectory nameMetadata nameAttachmentDirectory
-returns-2 c = search tests depth 10
+unfolding fileRows
+returns-2 c =
+    let e1 = c .before .before in
+    rw (taken-2 c, passed-1 e1)
 
 returns-3 : tie.Need-returns-3
-unfolding fileRows nameDirectory nameMetadata nameAttachmentDirectory
-returns-3 c = search tests depth 10
+unfolding fileRows
+returns-3 c =
+    let e2 = c .before .before in
+    let e1 = e2 .before .before in
+    rw (taken-3 c, passed-2 e2, passed-1 e1)
 
 returns-4 : tie.Need-returns-4
-unfolding fileRows nameDirectory nameMetadata nameAttachmentDirectory
-returns-4 c = search tests depth 10
+unfolding fileRows
+returns-4 c =
+    let e3 = c .before .before .before .before in
+    let e2 = e3 .before .before in
+    let e1 = e2 .before .before in
+    rw (taken-4 c, passed-3 e3, passed-2 e2, passed-1 e1)
 
 returns-5 : tie.Need-returns-5
-unfolding fileRows nameDirectory nameMetadata nameAttachmentDirectory
-returns-5 c = search tests depth 10
+unfolding fileRows
+returns-5 c =
+    let e4 = c .before .before .before .before in
+    let e3 = e4 .before .before .before .before in
+    let e2 = e3 .before .before in
+    let e1 = e2 .before .before in
+    rw (taken-5 c, passed-4 e4, passed-3 e3, passed-2 e2, passed-1 e1)
 
 returns-6 : tie.Need-returns-6
-unfolding fileRows nameDirectory nameMetadata nameAttachmentDirectory
-returns-6 c = search tests depth 10
+unfolding fileRows
+returns-6 c =
+    let e5 = c .before .before .before .before in
+    let e4 = e5 .before .before .before .before in
+    let e3 = e4 .before .before .before .before in
+    let e2 = e3 .before .before in
+    let e1 = e2 .before .before in
+    rw (taken-6 c, passed-5 e5, passed-4 e4, passed-3 e3, passed-2 e2, passed-1 e1)
 
 returns-7 : tie.Need-returns-7
-unfolding fileRows nameDirectory nameMetadata nameAttachmentDirectory
-returns-7 c = search tests depth 10
+unfolding fileRows
+returns-7 c =
+    let e5 = c .before .before .before .before in
+    let e4 = e5 .before .before .before .before in
+    let e3 = e4 .before .before .before .before in
+    let e2 = e3 .before .before in
+    let e1 = e2 .before .before in
+    rw (passed-6 c, passed-5 e5, passed-4 e4, passed-3 e3, passed-2 e2, passed-1 e1)
 
 pub judge-file-spec : {M : Type 1} → statement M
 unfolding fileRows nameDirectory nameMetadata nameAttachmentDirectory
