@@ -35,53 +35,70 @@ module _ (bs : List ℕ) (p q : ℕ) (i : p ≡ q) (r v : Bool) where
   data-is : r ≡ attachmentDataBad bs p → r ≡ v → attachmentDataBad bs q ≡ v
   data-is f h = rw (← i) (sym f ∙ h)
 
+-- ---- the lent file and where the entry stands in it, behind each test
+
+abbrev given-1 : tie.Else1 → List ℕ × ℕ
+given-1 c = let a = c .before .before .before .args in (now (a .s), a .e)
+
+abbrev given-2 : tie.Else2 → List ℕ × ℕ
+given-2 c = given-1 (c .before .before)
+
+abbrev given-3 : tie.Else3 → List ℕ × ℕ
+given-3 c = given-2 (c .before .before .before .before)
+
+abbrev given-4 : tie.Else4 → List ℕ × ℕ
+given-4 c = given-3 (c .before .before)
+
+abbrev given-5 : tie.Else5 → List ℕ × ℕ
+given-5 c = given-4 (c .before .before)
+
 -- ---- where a test is taken its row is given; behind it, it is not. Each of these rests on its own test alone.
 
 passed-1 : (c : tie.Else1)
-    → let a = c .before .before .before .args in
-    attachmentEntryBad (now (a .s)) (a .e) ≡ false
+    → let g = given-1 c in
+    attachmentEntryBad (g .0) (g .1) ≡ false
 passed-1 c = is-false _ _ (c .before .attachment-entry-bad .ensures) (c .if1 .left)
 
 taken-2 : (c : tie.Then2)
-    → let a = c .before .before .before .before .before .args in
-    not (eqb (attachmentPart (now (a .s)) (a .e)) 0) ≡ true
+    → let g = given-1 (c .before .before) in
+    not (eqb (attachmentPart (g .0) (g .1)) 0) ≡ true
 taken-2 c = search other-than-0
 
 passed-2 : (c : tie.Else2)
-    → let a = c .before .before .before .before .before .args in
-    not (eqb (attachmentPart (now (a .s)) (a .e)) 0) ≡ false
+    → let g = given-2 c in
+    not (eqb (attachmentPart (g .0) (g .1)) 0) ≡ false
 passed-2 c = is-0 _ _ (c .before .attachment-part .ensures .0) (c .if2 .left)
 
 taken-3 : (c : tie.Then3)
-    → let a = c .before .before .before .before .before .before .before .before .before .args in
-    not (walkedAs (now (a .s)) (attachmentPosition (now (a .s)) (a .e)) nameAttachment) ≡ true
+    → let g = given-2 (c .before .before .before .before) in
+    not (walkedAs (g .0) (attachmentPosition (g .0) (g .1)) nameAttachment) ≡ true
 unfolding nameAttachment
 taken-3 c = search walked-is
 
 passed-3 : (c : tie.Else3)
-    → let a = c .before .before .before .before .before .before .before .before .before .args in
-    not (walkedAs (now (a .s)) (attachmentPosition (now (a .s)) (a .e)) nameAttachment) ≡ false
+    → let g = given-3 c in
+    not (walkedAs (g .0) (attachmentPosition (g .0) (g .1)) nameAttachment) ≡ false
 unfolding nameAttachment
 passed-3 c = walked-is _ _ _ (c .before .before .before .attachment-position .ensures) _ _ _ (c .before .walked-as .ensures) (c .if3 .left)
 
 taken-4 : (c : tie.Then4)
-    → let a = c .before .before .before .before .before .before .before .before .before .before .before .args in
-    attachmentBad (now (a .s)) (a .e) (now (a .s)) (attachmentPosition (now (a .s)) (a .e)) ≡ true
+    → let g = given-3 (c .before .before) in
+    attachmentBad (g .0) (g .1) (g .0) (attachmentPosition (g .0) (g .1)) ≡ true
 taken-4 c = search copy-is
 
 passed-4 : (c : tie.Else4)
-    → let a = c .before .before .before .before .before .before .before .before .before .before .before .args in
-    attachmentBad (now (a .s)) (a .e) (now (a .s)) (attachmentPosition (now (a .s)) (a .e)) ≡ false
+    → let g = given-4 c in
+    attachmentBad (g .0) (g .1) (g .0) (attachmentPosition (g .0) (g .1)) ≡ false
 passed-4 c = search copy-is
 
 taken-5 : (c : tie.Then5)
-    → let a = c .before .before .before .before .before .before .before .before .before .before .before .before .before .args in
-    attachmentDataBad (now (a .s)) (attachmentPosition (now (a .s)) (a .e)) ≡ true
+    → let g = given-4 (c .before .before) in
+    attachmentDataBad (g .0) (attachmentPosition (g .0) (g .1)) ≡ true
 taken-5 c = search data-is
 
 passed-5 : (c : tie.Else5)
-    → let a = c .before .before .before .before .before .before .before .before .before .before .before .before .before .args in
-    attachmentDataBad (now (a .s)) (attachmentPosition (now (a .s)) (a .e)) ≡ false
+    → let g = given-5 c in
+    attachmentDataBad (g .0) (attachmentPosition (g .0) (g .1)) ≡ false
 passed-5 c = search data-is
 
 -- ---- the answers

@@ -36,51 +36,68 @@ module _ (r a : ℕ) (i : r ≡ a) where
 named-is : (bs : List ℕ) (p : ℕ) (name : List ℕ) (r v : Bool) → r ≡ walkedAs bs p name → not r ≡ v → not (walkedAs bs p name) ≡ v
 named-is bs p name r v f h = rw (← f) h
 
+-- ---- the lent file and where the entry stands in it, behind each test
+
+abbrev given-1 : tie.Else1 → List ℕ × ℕ
+given-1 c = let a = c .before .before .before .args in (now (a .s), a .e)
+
+abbrev given-2 : tie.Else2 → List ℕ × ℕ
+given-2 c = given-1 (c .before .before .before)
+
+abbrev given-3 : tie.Else3 → List ℕ × ℕ
+given-3 c = given-2 (c .before .before)
+
+abbrev given-4 : tie.Else4 → List ℕ × ℕ
+given-4 c = given-3 (c .before .before)
+
+abbrev given-5 : tie.Else5 → List ℕ × ℕ
+given-5 c = given-4 (c .before)
+
 -- ---- where a test is taken its row is given; behind it, it is not. Each of these rests on its own test alone.
 
 passed-1 : (c : tie.Else1)
-    → let a = c .before .before .before .args in
-    dimensionsBad (now (a .s)) (a .e) ≡ false
+    → let g = given-1 c in
+    dimensionsBad (g .0) (g .1) ≡ false
 passed-1 c = is-false _ _ (c .before .dimensions-bad .ensures) (c .if1 .left)
 
 taken-2 : (c : tie.Then2)
-    → let a = c .before .before .before .before .before .before .args in
-    eqb (pixelBytes (pixelType (now (a .s)) (a .e))) 0 ≡ true
+    → let g = given-1 (c .before .before .before) in
+    eqb (pixelBytes (pixelType (g .0) (g .1))) 0 ≡ true
 taken-2 c = search type-none
 
 passed-2 : (c : tie.Else2)
-    → let a = c .before .before .before .before .before .before .args in
-    eqb (pixelBytes (pixelType (now (a .s)) (a .e))) 0 ≡ false
+    → let g = given-2 c in
+    eqb (pixelBytes (pixelType (g .0) (g .1))) 0 ≡ false
 passed-2 c = type-some _ _ _ _ (c .before .before .pixel-type .ensures .0) (c .before .pixel-bytes .ensures) (c .if2 .left)
 
 taken-3 : (c : tie.Then3)
-    → let a = c .before .before .before .before .before .before .before .before .args in
-    not (eqb (compression (now (a .s)) (a .e)) 0) ≡ true
+    → let g = given-2 (c .before .before) in
+    not (eqb (compression (g .0) (g .1)) 0) ≡ true
 taken-3 c = search other-than-0
 
 passed-3 : (c : tie.Else3)
-    → let a = c .before .before .before .before .before .before .before .before .args in
-    not (eqb (compression (now (a .s)) (a .e)) 0) ≡ false
+    → let g = given-3 c in
+    not (eqb (compression (g .0) (g .1)) 0) ≡ false
 passed-3 c = is-0 _ _ (c .before .compression .ensures .0) (c .if3 .left)
 
 taken-4 : (c : tie.Then4)
-    → let a = c .before .before .before .before .before .before .before .before .before .before .args in
-    not (eqb (entryPart (now (a .s)) (a .e)) 0) ≡ true
+    → let g = given-3 (c .before .before) in
+    not (eqb (entryPart (g .0) (g .1)) 0) ≡ true
 taken-4 c = search other-than-0
 
 passed-4 : (c : tie.Else4)
-    → let a = c .before .before .before .before .before .before .before .before .before .before .args in
-    not (eqb (entryPart (now (a .s)) (a .e)) 0) ≡ false
+    → let g = given-4 c in
+    not (eqb (entryPart (g .0) (g .1)) 0) ≡ false
 passed-4 c = is-0 _ _ (c .before .file-part .ensures .0) (c .if4 .left)
 
 taken-5 : (c : tie.Then5)
-    → let a = c .before .before .before .before .before .before .before .before .before .before .before .args in
-    not (walkedAs (blockFile (scanOf (now (a .s))) (a .e)) (filePosition (now (a .s)) (a .e)) nameSubBlock) ≡ true
+    → let g = given-4 (c .before) in
+    not (walkedAs (blockFile (scanOf (g .0)) (g .1)) (filePosition (g .0) (g .1)) nameSubBlock) ≡ true
 taken-5 c = search named-is
 
 passed-5 : (c : tie.Else5)
-    → let a = c .before .before .before .before .before .before .before .before .before .before .before .args in
-    not (walkedAs (blockFile (scanOf (now (a .s))) (a .e)) (filePosition (now (a .s)) (a .e)) nameSubBlock) ≡ false
+    → let g = given-5 c in
+    not (walkedAs (blockFile (scanOf (g .0)) (g .1)) (filePosition (g .0) (g .1)) nameSubBlock) ≡ false
 passed-5 c = search named-is
 
 -- ---- the answers

@@ -29,68 +29,86 @@ module _ (r a b : ℕ) (i : r ≡ a) where
   same-as : r ≡ b → not (eqb a b) ≡ false
   same-as h = not-is-false _ (eq-yes r a b i h)
 
+-- ---- the lent file, behind each test
+
+abbrev file-1 : tie.Else1 → List ℕ
+file-1 c = now (c .before .before .before .args .s)
+
+abbrev file-2 : tie.Else2 → List ℕ
+file-2 c = file-1 (c .before .before)
+
+abbrev file-3 : tie.Else3 → List ℕ
+file-3 c = file-2 (c .before .before)
+
+abbrev file-4 : tie.Else4 → List ℕ
+file-4 c = file-3 (c .before .before .before .before)
+
+abbrev file-5 : tie.Else5 → List ℕ
+file-5 c = file-4 (c .before .before .before .before)
+
+abbrev file-6 : tie.Else6 → List ℕ
+file-6 c = file-5 (c .before .before .before .before)
+
 -- ---- where a test is taken its row is given; behind it, it is not. Each of these rests on its own test alone.
 
 passed-1 : (c : tie.Else1)
-    → let a = c .before .before .before .args in
-    not (eqb (major (now (a .s))) 1) ≡ false
+    → let f = file-1 c in
+    not (eqb (major f) 1) ≡ false
 passed-1 c = same-as _ _ _ (c .before .major .ensures .0) (c .if1 .left)
 
 taken-2 : (c : tie.Then2)
-    → let a = c .before .before .before .before .before .args in
-    not (eqb (filePart (now (a .s))) 0) ≡ true
+    → let f = file-1 (c .before .before) in
+    not (eqb (filePart f) 0) ≡ true
 taken-2 c = search other-than
 
 passed-2 : (c : tie.Else2)
-    → let a = c .before .before .before .before .before .args in
-    not (eqb (filePart (now (a .s))) 0) ≡ false
+    → let f = file-2 c in
+    not (eqb (filePart f) 0) ≡ false
 passed-2 c = same-as _ _ _ (c .before .file-part .ensures .0) (c .if2 .left)
 
 taken-3 : (c : tie.Then3)
-    → let a = c .before .before .before .before .before .before .before .args in
-    not (eqb (updatePending (now (a .s))) 0) ≡ true
+    → let f = file-2 (c .before .before) in
+    not (eqb (updatePending f) 0) ≡ true
 taken-3 c = search other-than
 
 passed-3 : (c : tie.Else3)
-    → let a = c .before .before .before .before .before .before .before .args in
-    not (eqb (updatePending (now (a .s))) 0) ≡ false
+    → let f = file-3 c in
+    not (eqb (updatePending f) 0) ≡ false
 passed-3 c = same-as _ _ _ (c .before .update-pending .ensures .0) (c .if3 .left)
 
 taken-4 : (c : tie.Then4)
-    → let a = c .before .before .before .before .before .before .before .before .before .before .before .args in
-    namesNone (now (a .s)) (directoryPosition (now (a .s))) nameDirectory ≡ true
+    → let f = file-3 (c .before .before .before .before) in
+    namesNone f (directoryPosition f) nameDirectory ≡ true
 unfolding nameDirectory
 taken-4 c = search names-is
 
 passed-4 : (c : tie.Else4)
-    → let a = c .before .before .before .before .before .before .before .before .before .before .before .args in
-    namesNone (now (a .s)) (directoryPosition (now (a .s))) nameDirectory ≡ false
+    → let f = file-4 c in
+    namesNone f (directoryPosition f) nameDirectory ≡ false
 unfolding nameDirectory
 passed-4 c = names-is _ _ _ _ _ _ (c .before .before .before .directory-position .ensures) (c .before .names-none .ensures) (c .if4 .left)
 
 taken-5 : (c : tie.Then5)
-    → let a = c .before .before .before .before .before .before .before .before .before .before .before .before .before .before .before .args in
-    namesNoneBut0 (now (a .s)) (metadataPosition (now (a .s))) nameMetadata ≡ true
+    → let f = file-4 (c .before .before .before .before) in
+    namesNoneBut0 f (metadataPosition f) nameMetadata ≡ true
 unfolding nameMetadata
 taken-5 c = search names-but-0-is
 
 passed-5 : (c : tie.Else5)
-    → let a = c .before .before .before .before .before .before .before .before .before .before .before .before .before .before .before .args in
-    namesNoneBut0 (now (a .s)) (metadataPosition (now (a .s))) nameMetadata ≡ false
+    → let f = file-5 c in
+    namesNoneBut0 f (metadataPosition f) nameMetadata ≡ false
 unfolding nameMetadata
 passed-5 c = names-but-0-is _ _ _ _ _ _ (c .before .before .before .metadata-position .ensures) (c .before .names-none-but-0 .ensures) (c .if5 .left)
 
 taken-6 : (c : tie.Then6)
-    → let e = c .before .before .before .before in
-    let a = e .before .before .before .before .before .before .before .before .before .before .before .before .before .before .before .args in
-    namesNoneBut0 (now (a .s)) (attachmentDirectoryPosition (now (a .s))) nameAttachmentDirectory ≡ true
+    → let f = file-5 (c .before .before .before .before) in
+    namesNoneBut0 f (attachmentDirectoryPosition f) nameAttachmentDirectory ≡ true
 unfolding nameAttachmentDirectory
 taken-6 c = search names-but-0-is
 
 passed-6 : (c : tie.Else6)
-    → let e = c .before .before .before .before in
-    let a = e .before .before .before .before .before .before .before .before .before .before .before .before .before .before .before .args in
-    namesNoneBut0 (now (a .s)) (attachmentDirectoryPosition (now (a .s))) nameAttachmentDirectory ≡ false
+    → let f = file-6 c in
+    namesNoneBut0 f (attachmentDirectoryPosition f) nameAttachmentDirectory ≡ false
 unfolding nameAttachmentDirectory
 passed-6 c =
     names-but-0-is _ _ _ _ _ _ (c .before .before .before .attachment-directory-position .ensures) (c .before .names-none-but-02 .ensures) (c .if6 .left)
