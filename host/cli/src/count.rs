@@ -12,7 +12,7 @@ use crate::progress::Progress;
 use crate::question::Question;
 use crate::window::{Cut, Window};
 use crate::{memory, types};
-use czi::calls;
+use czi::{calls, PixelType};
 use std::ffi::OsString;
 use std::sync::atomic::{AtomicBool, AtomicU64, AtomicUsize, Ordering::SeqCst};
 use std::sync::Mutex;
@@ -52,17 +52,18 @@ fn jobs(arguments: &Arguments) -> Result<usize, Failure> {
 }
 
 fn count(plane: &Plane, jobs: usize) -> Result<String, Failure> {
+    let found = plane.pixel_type()?;
+    let chosen = plane.chosen(found);
     let Some(window) = plane.window else {
         // No tile that is no pyramid tile: nothing is selected.
-        let chosen = plane.chosen(None);
         return Ok(format!("covered=0\npixels=0\nwindows=0\n{chosen}"));
     };
-    let pixel_type = plane.pixel_type(window)?;
+    // Without a tile the type makes no difference.
+    let pixel_type = found.unwrap_or(PixelType::Gray8.number());
     let memory = memory::MOST / jobs as u64;
     let cut = Cut::new(window, memory::pixels(memory, types::bytes(pixel_type)));
     let covered = sum(plane, &cut, pixel_type, jobs)
         .map_err(|failure| plane.explained(window, pixel_type, failure))?;
-    let chosen = plane.chosen((plane.summary.tiles != 0).then_some(pixel_type));
     let (pixels, parts) = (window.pixels(), cut.parts());
     Ok(format!(
         "covered={covered}\npixels={pixels}\nwindows={parts}\n{chosen}"

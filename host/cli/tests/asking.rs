@@ -258,21 +258,37 @@ fn windows_that_are_refused_are_refused_by_the_library() {
 
 #[test]
 fn a_file_without_a_box_covers_nothing() {
-    for (name, tiles) in [("smallest.czi", 0), ("pyramids.czi", 2)] {
-        let wanted = "covered=0\npixels=0\nwindows=0\n";
-        let chosen = "selected=0 meet=0 masks=off scene=0 type=none window=none";
-        assert_eq!(
-            prints(&["count", &sample(name)]),
-            format!("{wanted}tiles={tiles} {chosen}\n")
-        );
-        fails(&["compose", &sample(name)], 1, "no box, so a --window");
+    let types = [("smallest.czi", 0, "none"), ("pyramids.czi", 2, "gray8")];
+    for (name, tiles, found) in types {
+        let file = sample(name);
+        let wanted = |named: &str| {
+            let chosen = "selected=0 meet=0 masks=off scene=0";
+            let counts = "covered=0\npixels=0\nwindows=0";
+            format!("{counts}\ntiles={tiles} {chosen} type={named} window=none\n")
+        };
+        assert_eq!(prints(&["count", &file]), wanted(found));
+        let typed = ["count", &file, "--type", "Bgr48"];
+        assert_eq!(prints(&typed), wanted("bgr48"));
+        fails(&["compose", &file], 1, "no box, so a --window");
+        for command in ["count", "compose"] {
+            for window in [&[][..], &["--window", "0,0,3,3"]] {
+                let typed = [&[command, &file, "--type", "12"], window].concat();
+                fails(&typed, 2, "refused 21 at 0: ");
+                fails(&typed, 2, "(there is no type 12)");
+            }
+        }
     }
     let empty = sample("smallest.czi");
     let counted = prints(&["count", &empty, "--window", "0,0,3,3"]);
     assert!(counted.starts_with("covered=0\npixels=9\nwindows=1\n"));
     assert!(counted.ends_with("type=none window=0,0,3,3\n"));
+    let typed = ["count", &empty, "--window=0,0,3,3", "--type=1"];
+    assert!(prints(&typed).ends_with("type=gray16 window=0,0,3,3\n"));
+    fails(&["count", &empty, "--window=0,0,0,3"], 2, "refused 20 ");
     let window = ["compose", &empty, "--window", "0,0,3,3"];
     fails(&window, 1, "no tiles, so a --type");
+    let pixel = [&window[..], &["--background", "0102"]].concat();
+    fails(&pixel, 1, "no tiles, so a --type");
 }
 
 /// One type among the tiles that count, whatever others the file has.
@@ -321,15 +337,19 @@ fn two_types_are_refused_and_named() {
         fails(&["count", &file, "--jobs", jobs], 2, words);
         fails(&["count", &file, "--jobs", jobs], 2, named);
     }
-    // Two parts are refused: the first is said, however the jobs run.
+    // Two parts are refused: the first in the directory is said, though it lies in
+    // the last part, and however the jobs run.
     let farther = gray16(0, 140_000, 6, 7);
     let tiles = [gray8(0, 0, 5, 5), farther, far];
     let three = folder.write("three.czi", &mosaic(&tiles));
     fails(&["count", &three], 2, named);
     let typed = ["count", &three, "--jobs", "3", "--type", "gray8"];
     for _ in 0..20 {
-        fails(&typed, 2, "(tile 2 has gray16, asked for is gray8)");
+        fails(&typed, 2, "(tile 1 has gray16, asked for is gray8)");
     }
+    let typed = ["count", &sample("free.czi"), "--type", "gray8"];
+    fails(&typed, 2, "refused 23 at 5384: ");
+    fails(&typed, 2, "(tile 1 has gray16, asked for is gray8)");
     // 20 and 21 go before 23.
     fails(&["count", &three, "--window", "0,0,0,1"], 2, "refused 20 ");
     fails(&["compose", &three], 2, "(the height is 140007)");

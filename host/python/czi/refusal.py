@@ -36,13 +36,16 @@ class Refused(Exception):
     number   of the refusal; include/czi.h says when each is given
     place    where, as a byte offset in the file
     words    of the rule
+    more     what is said of it beyond the rule, or nothing
     """
 
-    def __init__(self, number, place):
-        super().__init__(number, place)
+    def __init__(self, number, place, more=""):
+        super().__init__(number, place, more)
         self.number = number
         self.place = place
+        self.more = more
         self.words = WORDS.get(number, "there is no such refusal")
 
     def __str__(self):
-        return f"refused {self.number} at {self.place}: {self.words}"
+        more = f" ({self.more})" if self.more else ""
+        return f"refused {self.number} at {self.place}: {self.words}{more}"
