@@ -79,14 +79,15 @@ fn figures_that_explain_a_count() {
     let lines = prints(&["info", &file]);
     let (_, more) = lines.split_once("box=-50,-60,10,5\n").expect(&lines);
     let wanted = "pyramid_tiles=0\nmasked_tiles=0\ntype=gray8 tiles=2\ntype=gray16 tiles=1\n\
-                  scene=0 tiles=2 box=0,0,10,5\nscene=3 tiles=1 box=-50,-60,-40,-40\n\
+                  scene=0 tiles=2 pyramid_tiles=0 box=0,0,10,5\n\
+                  scene=3 tiles=1 pyramid_tiles=0 box=-50,-60,-40,-40\n\
                   letter=S tiles=3 least=0 greatest=3\n";
     assert_eq!(more, wanted);
     let json = prints(&["info", &file, "--json"]);
     for part in [
         "\"box\":{\"left\":-50,\"top\":-60,\"right\":10,\"bottom\":5}",
         "\"types\":[{\"type\":\"gray8\",\"tiles\":2},{\"type\":\"gray16\",\"tiles\":1}]",
-        "{\"scene\":3,\"tiles\":1,\"box\":{\"left\":-50,\"top\":-60,\"right\":-40,\"bottom\":-40}}]",
+        "{\"scene\":3,\"tiles\":1,\"pyramid_tiles\":0,\"box\":{\"left\":-50,\"top\":-60,\"right\":-40,\"bottom\":-40}}]",
         "\"letters\":[{\"letter\":\"S\",\"tiles\":3,\"least\":0,\"greatest\":3}]",
         "\"attachments\":[]}\n",
     ] {
@@ -115,17 +116,19 @@ fn names_of_attachments_are_printed_on_their_line() {
             .unwrap();
     for place in [entry, copy] {
         bytes[place + 40..place + 48].copy_from_slice(b"a\"b\\\nc\x7Fd");
-        bytes[place + 48..place + 56].copy_from_slice(b"x\xFFy \xC3\xA9\0z");
+        bytes[place + 48..place + 59].copy_from_slice(b"x\xFFy \xC3\xA9\xE2\x80\xAE\0z");
     }
     let file = folder.write("a.czi", &bytes);
     let guid = "{13121110-1514-1716-1819-1A1B1C1D1E1F}";
-    let line =
-        format!("attachment=0 bytes=40 type=a\"b\\?c?d guid={guid} name=x\u{FFFD}y \u{E9}\n");
+    // Quotes and backslashes are escaped, control characters and marks of direction.
+    let (file_type, name) = (
+        "\"a\\\"b\\\\\\u000ac\\u007fd\"",
+        "\"x\u{FFFD}y \u{E9}\\u202e\"",
+    );
+    let line = format!("attachment=0 bytes=40 guid={guid} type={file_type} name={name}\n");
     let lines = prints(&["info", &file]);
     assert!(lines.ends_with(&line), "{lines}");
-    let object = format!(
-        "\"type\":\"a\\\"b\\\\\\u000ac\\u007fd\",\"guid\":\"{guid}\",\"name\":\"x\u{FFFD}y \u{E9}\"}}]}}\n"
-    );
+    let object = format!("\"type\":{file_type},\"guid\":\"{guid}\",\"name\":{name}}}]}}\n");
     let json = prints(&["info", &file, "--json"]);
     assert!(json.ends_with(&object), "{json}");
 }
@@ -248,7 +251,11 @@ fn windows_that_are_refused_are_refused_by_the_library() {
         ),
     ] {
         let count = ["count", &file, "--window", window];
-        fails(&count, 2, "refused 20 at 0: ");
+        fails(
+            &count,
+            2,
+            "refused 20 at 0: a side of the window is 0, or an edge is past",
+        );
         fails(&count, 2, half);
     }
     let last = ["count", &file, "--window", "2147400000,0,83647,1"];

@@ -5,10 +5,12 @@ from typing import NamedTuple
 from .pixel import PixelType, pixel_bytes
 from .plane import Met, chosen, compose, masks_number, refuse_early
 from .reader import summary
+from .refusal import Refused
 
 # The greatest side of a window that the library composes, and the last column and row.
 _SIDE = 65536
 _LAST = 2**31 - 1
+_WINDOW = 20
 
 
 class Count(NamedTuple):
@@ -48,7 +50,13 @@ def count(file, window=None, pixel_type=None, *, starts=None, scene=0, masks=Fal
     if not given:
         pixel_type = PixelType.Gray8 if met.pixel_type is None else met.pixel_type
     for end in ends(*window):
-        refuse_early(file, end, pixel_type, starts, scene)
+        try:
+            refuse_early(file, end, pixel_type, starts, scene)
+        except Refused as refused:
+            if refused.number != _WINDOW:
+                raise
+            more = "count takes any window but one with a side of 0 or an edge past 2,147,483,647"
+            raise Refused(_WINDOW, refused.place, more) from None
     met.refuse_another(pixel_type, given)
     cut = Cut(*window, pixel_bytes(pixel_type), memory)
     pixels, covered = cut.wide * cut.high, 0

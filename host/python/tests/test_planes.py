@@ -252,6 +252,8 @@ class Counts(unittest.TestCase):
         self.assertEqual(refusal_of(czi.count, sample("mosaic"), (100, 60, 0, 28)), (20, 0))
         for window in [(2**31 - 2, 0, 70000, 1), (2**31 - 1 - 65536, 0, 200000, 1), (0, 2**31 - 1, 1, 2**32 - 1)]:
             self.assertEqual(refusal_of(czi.count, sample("mosaic"), window), (20, 0))
+            with self.assertRaisesRegex(czi.Refused, r"\(count takes any window but one with a side of 0 or an edge past"):
+                czi.count(sample("mosaic"), window)
         self.assertEqual(refusal_of(czi.count, sample("smallest"), (0, 0, 0, 1)), (20, 0))
 
     def test_a_type_that_is_not_listed_is_refused_of_every_file(self):
