@@ -74,7 +74,9 @@
  * in crates/czi/specs). host/tests/interface holds the declarations here against those there; what the words here say
  * of an answer is tested, not proved.
  *
- * Linked as  cc yours.c $(pkg-config --cflags --libs czi)  where ./install has put it; or, beside the sources, built by
+ * C99 or later, or C++. Linked, where ./install has put it into PREFIX, as
+ *   cc yours.c $(pkg-config --cflags --libs czi) -Wl,-rpath,PREFIX/lib
+ * or without -rpath where the loader finds libczi.so.1 (LD_LIBRARY_PATH, ldconfig); or, beside the sources, built by
  * `rt staticlib czi` and linked as  cc -Iinclude yours.c target/staticlib/libczi.a
  */
 #ifndef CZI_H
@@ -222,7 +224,7 @@ enum {
  * entry has them. The one of row r has its numbers from CZI_DIMENSION_NUMBERS * r on, and its start at starts[r]. The
  * rows of a tile begin behind those of the tiles before it; its record says how many it has (CZI_TILE_DIMENSIONS).
  *
- * 22 and arrays as for czi_tiles: of the sum of CZI_TILE_DIMENSIONS over all tiles there are so many rows, at most
+ * 22 and arrays as for czi_tiles: there are as many rows as the sum of CZI_TILE_DIMENSIONS over all tiles, at most
  * 16 * CZI_MOST_TILES. dimensions is how many were written, 0 where refused. */
 uint32_t czi_dimensions(const uint8_t *file, size_t file_len,
                         uint64_t *numbers, size_t numbers_len, int32_t *starts, size_t starts_len,

@@ -13,19 +13,21 @@ static inline const char *czi_refusal_words(uint32_t number) {
     case 2: return "unknown name";
     case 3: return "AllocatedSize negative or not a multiple of 32; UsedSize negative or larger; end past the file";
     case 4: return "more than 8,192 segments";
-    case 5: return "first isn't the file segment, a later one is, or its room is under 80";
+    case 5: return "the first segment is not the file segment or is under 80 bytes long, or a later one is a "
+                   "file segment";
     case 6: return "Major not 1";
     case 7: return "a FilePart not 0";
     case 8: return "UpdatePending not 0";
-    case 9: return "a position names no walked segment of its kind";
-    case 10: return "a directory's fixed part or entries don't fit its room; EntryCount negative or over 4,096; "
-                    "the metadata segment's sizes negative, or 256 plus both over its room";
+    case 9: return "a directory or the metadata is said to be where no such segment begins";
+    case 10: return "a directory is too short for its entries, or has a negative number of them or over 4,096; or "
+                    "the metadata segment's sizes are negative or too large for it";
     case 11: return "entry not well formed";
     case 12: return "pixel type not listed";
     case 13: return "compression not 0";
-    case 14: return "entry names no walked segment of its kind";
-    case 15: return "fixed part doesn't fit the room, or the copy differs";
-    case 16: return "sizes negative, don't fit, or DataSize wrong";
+    case 14: return "an entry says that its tile or attachment is where none begins";
+    case 15: return "a tile or attachment says something else of itself than its entry does, or is too short to say it";
+    case 16: return "a tile's or an attachment's sizes are negative or too large for it, or a tile has too few or "
+                    "too many bytes of pixels";
     case 17: return "chunk not as the rules say";
     case 18: return "mask not as the rules say";
     case 20: return "window side not 1 to 65,536, or right or bottom edge above 2,147,483,647";

@@ -92,13 +92,11 @@ fn compose(
     places: &Places,
 ) -> Result<(Vec<Sink>, String), Failure> {
     let missing = |what: &str| Failure::Other(format!("the file has no {what}"));
+    let pixel_type = plane.pixel_type()?;
     let window = plane
         .window
         .ok_or_else(|| missing("box, so a --window must be given"))?;
-    if plane.summary.tiles == 0 && plane.question.pixel_type.is_none() {
-        return Err(missing("tiles, so a --type must be given"));
-    }
-    let pixel_type = plane.pixel_type(window)?;
+    let pixel_type = pixel_type.ok_or_else(|| missing("tiles, so a --type must be given"))?;
     let (sinks, sums) = paint(plane, window, pixel_type, composer, places)
         .map_err(|failure| plane.explained(window, pixel_type, failure))?;
     let stored = match composer {

@@ -12,10 +12,10 @@ use crate::progress::Progress;
 use crate::question::Question;
 use crate::window::{Cut, Window};
 use crate::{memory, types};
-use czi::calls;
+use czi::{calls, PixelType};
 use std::ffi::OsString;
 use std::sync::atomic::{AtomicBool, AtomicU64, AtomicUsize, Ordering::SeqCst};
-use std::sync::Mutex;
+use std::sync::{Barrier, Mutex};
 use std::thread;
 
 const TAKES: Takes = Takes {
@@ -26,6 +26,11 @@ const TAKES: Takes = Takes {
 
 /// The most jobs that may be asked for.
 const JOBS: usize = 1024;
+
+/// The stack of a job, and what libc wants for a thread besides: where it finds none
+/// it aborts, with a line of its own.
+const STACK: usize = 2 << 20;
+const SPARE: usize = 1 << 18;
 
 /// So many parts are asked about at once before the jobs begin, which ask about each.
 const FEW: u64 = 8;
@@ -52,17 +57,18 @@ fn jobs(arguments: &Arguments) -> Result<usize, Failure> {
 }
 
 fn count(plane: &Plane, jobs: usize) -> Result<String, Failure> {
+    let found = plane.pixel_type()?;
+    let chosen = plane.chosen(found);
     let Some(window) = plane.window else {
         // No tile that is no pyramid tile: nothing is selected.
-        let chosen = plane.chosen(None);
         return Ok(format!("covered=0\npixels=0\nwindows=0\n{chosen}"));
     };
-    let pixel_type = plane.pixel_type(window)?;
+    // Without a tile the type makes no difference.
+    let pixel_type = found.unwrap_or(PixelType::Gray8.number());
     let memory = memory::MOST / jobs as u64;
     let cut = Cut::new(window, memory::pixels(memory, types::bytes(pixel_type)));
     let covered = sum(plane, &cut, pixel_type, jobs)
         .map_err(|failure| plane.explained(window, pixel_type, failure))?;
-    let chosen = plane.chosen((plane.summary.tiles != 0).then_some(pixel_type));
     let (pixels, parts) = (window.pixels(), cut.parts());
     Ok(format!(
         "covered={covered}\npixels={pixels}\nwindows={parts}\n{chosen}"
@@ -101,16 +107,28 @@ fn sum(plane: &Plane, cut: &Cut, pixel_type: u32, jobs: usize) -> Result<u64, Fa
         parts,
     };
     if jobs == 1 {
-        shared.work();
+        shared.work(shared.buffers()?);
     } else {
+        let (shared, begun) = (&shared, &Barrier::new(2));
         thread::scope(|scope| {
             for _ in 0..jobs {
-                let started = thread::Builder::new().spawn_scoped(scope, || shared.work());
-                if let Err(error) = started {
-                    let what = format!("a job can't be started: {error}");
-                    shared.fail(0, Failure::Other(what));
-                    break;
-                }
+                // A job takes hardly any memory itself, and the next one's is taken when
+                // it runs: so what its start needs is there.
+                let started = shared.buffers().and_then(|buffers| {
+                    memory::is_there(STACK + SPARE)?;
+                    let job = move || {
+                        begun.wait();
+                        shared.work(buffers);
+                    };
+                    let thread = thread::Builder::new().stack_size(STACK);
+                    let cannot = |error| format!("a job can't be started: {error}");
+                    let started = thread.spawn_scoped(scope, job);
+                    started.map_err(|error| Failure::Other(cannot(error)))
+                });
+                match started {
+                    Ok(_) => begun.wait(),
+                    Err(failure) => return shared.fail(0, failure),
+                };
             }
         });
     }
@@ -123,15 +141,25 @@ fn sum(plane: &Plane, cut: &Cut, pixel_type: u32, jobs: usize) -> Result<u64, Fa
 }
 
 impl Shared<'_> {
-    /// One job: takes parts until there are none.
-    fn work(&self) {
+    /// How many bytes target and map of one part have at most.
+    fn lengths(&self) -> [u64; 2] {
         let size = u64::from(self.cut.width) * u64::from(self.cut.height);
-        let target = memory::zeros(size * types::bytes(self.pixel_type) as u64);
-        let map = memory::zeros(size.div_ceil(8));
-        let (mut target, mut map) = match (target, map) {
-            (Ok(target), Ok(map)) => (target, map),
-            (Err(failure), _) | (_, Err(failure)) => return self.fail(0, failure),
-        };
+        let bytes = types::bytes(self.pixel_type) as u64;
+        [size * bytes, size.div_ceil(8)]
+    }
+
+    /// Room for both.
+    fn buffers(&self) -> Result<[Vec<u8>; 2], Failure> {
+        let [target, map] = self.lengths();
+        Ok([memory::room(target)?, memory::room(map)?])
+    }
+
+    /// One job: takes parts until there are none.
+    fn work(&self, mut buffers: [Vec<u8>; 2]) {
+        for (buffer, length) in buffers.iter_mut().zip(self.lengths()) {
+            buffer.resize(length as usize, 0);
+        }
+        let [mut target, mut map] = buffers;
         let background = self.plane.background(self.pixel_type);
         while !self.stop.load(SeqCst) {
             let taken = self.next.fetch_add(1, SeqCst);

@@ -9,8 +9,12 @@ use std::path::Path;
 pub enum Failure {
     /// The library refused; with what is to be said of it.
     Refused(czi::Refusal, Option<String>),
+    /// The library refused, and other words than its own say what was wrong.
+    Worded(czi::Refusal, String),
     /// A bad argument.
     Usage(String),
+    /// A bad argument of that command.
+    UsageOf(String, String),
     /// A file can't be read or written, or memory is short.
     Other(String),
 }
@@ -19,14 +23,26 @@ impl Failure {
     /// The exit code.
     pub fn code(&self) -> u8 {
         match self {
-            Failure::Refused(..) => 2,
-            Failure::Usage(_) | Failure::Other(_) => 1,
+            Failure::Refused(..) | Failure::Worded(..) => 2,
+            Failure::Usage(_) | Failure::UsageOf(..) | Failure::Other(_) => 1,
         }
     }
 
     /// The one line that is said, whatever characters a name has.
     pub fn line(&self) -> String {
-        format!("czi: {}\n", one_line(&self.to_string()))
+        let more = match self.code() {
+            2 => "; czi help refusals says more",
+            _ => "",
+        };
+        format!("czi: {}{more}\n", one_line(&self.to_string()))
+    }
+
+    /// The same; a bad argument is one of that command.
+    pub fn of_command(self, name: &str) -> Failure {
+        match self {
+            Failure::Usage(what) => Failure::UsageOf(what, name.to_string()),
+            other => other,
+        }
     }
 
     /// Something is wrong with that file.
@@ -46,7 +62,14 @@ impl fmt::Display for Failure {
         match self {
             Failure::Refused(refusal, None) => write!(f, "{refusal}"),
             Failure::Refused(refusal, Some(more)) => write!(f, "{refusal} ({more})"),
-            Failure::Usage(what) => write!(f, "{what} (czi --help says how it is called)"),
+            Failure::Worded(refusal, words) => {
+                let (number, place) = (refusal.reason.number(), refusal.place);
+                write!(f, "refused {number} at {place}: {words}")
+            }
+            Failure::Usage(what) => write!(f, "{what} (czi help says how it is called)"),
+            Failure::UsageOf(what, name) => {
+                write!(f, "{what} (czi help {name} says how it is called)")
+            }
             Failure::Other(what) => write!(f, "{what}"),
         }
     }

@@ -15,6 +15,7 @@ usage: czi judge FILE      is the file accepted?
        czi list FILE       the listing of a file of at most 65,536 bytes
        czi sample OUT.czi  writes a small mosaic to try these with
        czi help COMMAND    more about a command
+       czi help refusals   what each refusal means, and what to do about it
        czi --version
 
 FILE may be - for standard input. A plain file is mapped, so it may be larger than
@@ -54,16 +55,21 @@ Prints, of a file of any size:
   pyramid_tiles=              tiles stored in another size, which no plane shows
   masked_tiles=               tiles with a mask, which --masks on looks at
   type= tiles=                for each pixel type, in the order of the directory
-  scene= tiles= box=          for each start of S, if any tile has S; a tile
-                              without S counts to scene 0
+  scene= tiles= pyramid_tiles= box=
+                              for each start of S, if any tile has S; a tile
+                              without S counts to scene 0. tiles= counts the
+                              pyramid tiles in, selected= of czi count does not
   letter= tiles= least= greatest=
                               for each letter but X and Y: how many tiles have
                               it, and the range of its starts
-  attachment= bytes= type= guid= name=
+  attachment= bytes= guid= type= name=
                               for each attachment: its number, the size of its
-                              data, its file type, content GUID and name, the
-                              last up to the line's end; a control character is
-                              printed as ?
+                              data, its content GUID, file type and name. The
+                              last two are strings as JSON has them: quotes,
+                              backslashes, control characters, marks of
+                              direction and others that are not seen are
+                              escaped. Bytes that are no UTF-8 are shown as
+                              U+FFFD
 With --json the same as one object. Exits 2 where the file is refused.
 ";
 
@@ -122,7 +128,8 @@ const QUESTION: &str =
                      bgra32 (9), graycomplex (10), bgrcomplex (11), in any case.
                      Unless given that of the selected tiles that meet the
                      window, or of the first tile where none does; two types
-                     among them are refused as 23, and both are named
+                     among them are refused as 23, and both are named. One that
+                     is not listed is refused as 21 of any file
   --start C=1        tiles that start at 1 along C, for any letter but X, Y and
                      M; 0 unless given; may be given once for each letter
   --scene any|N      all scenes, or the one that starts at N; the same as
@@ -136,6 +143,8 @@ usage: czi count FILE [--window L,T,W,H] [--type T] [--start C=1 ..]
            [--scene any|N] [--masks on|off] [--jobs N]
 
 Prints how many pixels of a window are covered by a tile; no file is written.
+Without options that is scene 0, start 0 of all other letters, and masks off; for
+an area ask with --scene any --masks on.
 
 @
   --jobs N           how many windows are composed at a time, 1 to 1024; as many
@@ -145,10 +154,12 @@ The window may have any sides here. It is cut into windows of at most 65,536 a
 side, so that all jobs together take at most 512 MiB, and their counts are added.
 Those that no selected tile meets have no covered pixel and are not composed.
 Prints covered=, pixels= (of the whole window), windows= (into how many it was
-cut), and a line with what was chosen: tiles= (of the file), selected= (of these),
-meet= (of these, how many share a pixel with the window), masks=, scene=, the
-starts that are not 0, type=, window=. A file without a box covers nothing. A run
-of more than a second shows how far it is where standard error is a terminal.
+cut, which depends on the jobs; the counts do not), and a line with what was
+chosen: tiles= (of the file), selected= (of these), meet= (of these, how many
+share a pixel with the window), masks=, scene=, the starts that are not 0, type=
+(none where none is given and the file has no tile), window=. A file without a box
+covers nothing. A run of more than a second shows how far it is where standard
+error is a terminal.
 ";
 
 const COMPOSE: &str = "\
@@ -178,6 +189,101 @@ how many share a pixel with the window), masks=, scene=, the starts that are not
 is there.
 ";
 
+/// The commands.
+pub const COMMANDS: [&str; 8] = [
+    "judge", "info", "tiles", "count", "compose", "extract", "list", "sample",
+];
+
+/// What to do about each refusal.
+const ADVICE: [(u32, &str); 24] = [
+    (1, "cut in copying, or no CZI file: copy it again"),
+    (
+        2,
+        "damaged from the place on, or no CZI file: copy it again",
+    ),
+    (3, "mostly a file that was cut: copy it again"),
+    (
+        4,
+        "save it anew, so that deleted segments go, or in several files",
+    ),
+    (5, "no CZI file, or two were joined"),
+    (6, "save it anew in version 1 of the format"),
+    (7, "a scan in several parts: save it anew as one file"),
+    (
+        8,
+        "wait until the writer is done; if it crashed, save it anew",
+    ),
+    (9, "damaged, or never finished: copy it again, save it anew"),
+    (
+        10,
+        "save it without a pyramid, or scene by scene; else damaged",
+    ),
+    (
+        11,
+        "save it anew with one plane in each sub-block; else damaged",
+    ),
+    (12, "convert it"),
+    (13, "save it anew without compression"),
+    (14, "damaged: copy it again"),
+    (
+        15,
+        "some tool changed the one and not the other: save it anew, and look which is right",
+    ),
+    (16, "damaged: copy it again"),
+    (17, "whoever wrote the masks writes them again"),
+    (18, "whoever wrote the masks writes them again"),
+    (
+        20,
+        "compose: cut the window, and count is for windows of any size",
+    ),
+    (21, "name another type, or as many bytes as its pixel has"),
+    (22, "a fault of the calling program"),
+    (
+        23,
+        "name the type of that tile, or select one kind of tiles, mostly by --start C=N",
+    ),
+    (24, "czi info and czi tiles say how many there are"),
+    (30, "czi info has the same figures"),
+];
+
+/// The text about refusals.
+fn refusals() -> String {
+    let mut text = "\
+A refusal is a number, a place, which is an offset in the file, and words. Some
+files are refused whole by design: 4, 7, 10, 11 and 13, and 12 for types that the
+format only plans. \"Copy it again\" means from the medium that it came from, \"save
+it anew\" with the program that wrote it. docs/INTEGRATE.md and docs/RULES.md say
+more.
+
+"
+    .to_string();
+    for (number, advice) in ADVICE {
+        let words = czi::Reason::of_number(number).words();
+        text += &wrapped(&format!("{number:>2}  "), words);
+        text += &wrapped("    - ", advice);
+    }
+    text
+}
+
+/// The words behind a first word, in lines of at most 80 columns.
+fn wrapped(first: &str, words: &str) -> String {
+    let mut lines = first.to_string();
+    let mut column = first.len();
+    for (k, word) in words.split(' ').enumerate() {
+        if k > 0 && column + 1 + word.len() > 80 {
+            lines += "\n";
+            lines += &" ".repeat(first.len());
+            column = first.len();
+        } else if k > 0 {
+            lines += " ";
+            column += 1;
+        }
+        lines += word;
+        column += word.len();
+    }
+    lines + "\n"
+}
+
 /// The text about a command, or about all for none.
 pub fn text(command: Option<&str>) -> Option<String> {
     let text = match command {
@@ -190,6 +296,7 @@ pub fn text(command: Option<&str>) -> Option<String> {
         Some("compose") => COMPOSE,
         Some("extract") => EXTRACT,
         Some("sample") => SAMPLE,
+        Some("refusals") => return Some(refusals()),
         Some(_) => return None,
     };
     Some(text.replace("@\n", QUESTION))

@@ -6,7 +6,7 @@ use crate::failure::Failure;
 use crate::input::Input;
 use crate::records::starts;
 use crate::types;
-use crate::words::{one_line, quoted};
+use crate::words::quoted;
 use czi::{Attachment, Edges, Record, Summary};
 use std::collections::BTreeMap;
 use std::ffi::OsString;
@@ -28,10 +28,12 @@ pub fn run(words: Vec<OsString>) -> Result<Answer, Failure> {
     }))
 }
 
-/// The tiles of a scene, and the box over those that are no pyramid tiles.
+/// The tiles of a scene, how many of them are pyramid tiles, and the box over those
+/// that are none.
 #[derive(Default)]
 struct Scene {
     tiles: u64,
+    pyramid_tiles: u64,
     edges: Option<Edges>,
 }
 
@@ -88,8 +90,10 @@ impl Info {
         for (name, tiles) in &self.types {
             lines += &format!("type={name} tiles={tiles}\n");
         }
-        for (scene, Scene { tiles, edges }) in &self.scenes {
-            lines += &format!("scene={scene} tiles={tiles} box={}\n", said(edges));
+        for (scene, of) in &self.scenes {
+            let (tiles, pyramid_tiles, edges) = (of.tiles, of.pyramid_tiles, said(&of.edges));
+            lines +=
+                &format!("scene={scene} tiles={tiles} pyramid_tiles={pyramid_tiles} box={edges}\n");
         }
         for (letter, range) in &self.letters {
             let Range {
@@ -101,12 +105,12 @@ impl Info {
         }
         for attachment in &self.attachments {
             lines += &format!(
-                "attachment={} bytes={} type={} guid={} name={}\n",
+                "attachment={} bytes={} guid={} type={} name={}\n",
                 attachment.entry,
                 attachment.data.len(),
-                one_line(&attachment.file_type_text()),
                 attachment.guid_text(),
-                one_line(&attachment.name_text()),
+                quoted(&attachment.file_type_text()),
+                quoted(&attachment.name_text()),
             );
         }
         lines
@@ -116,9 +120,11 @@ impl Info {
     fn json(&self) -> String {
         let types = self.types.iter();
         let types = types.map(|(name, tiles)| format!("{{\"type\":\"{name}\",\"tiles\":{tiles}}}"));
-        let scenes = self.scenes.iter().map(|(scene, Scene { tiles, edges })| {
-            let edges = object(edges);
-            format!("{{\"scene\":{scene},\"tiles\":{tiles},\"box\":{edges}}}")
+        let scenes = self.scenes.iter().map(|(scene, of)| {
+            let (tiles, pyramid_tiles, edges) = (of.tiles, of.pyramid_tiles, object(&of.edges));
+            format!(
+                "{{\"scene\":{scene},\"tiles\":{tiles},\"pyramid_tiles\":{pyramid_tiles},\"box\":{edges}}}"
+            )
         });
         let letters = self.letters.iter().map(|(letter, range)| {
             let Range {
@@ -211,7 +217,9 @@ fn scenes_of(all: &[Record]) -> BTreeMap<i32, Scene> {
     for record in all {
         let scene = scenes.entry(scene_of(record).unwrap_or(0)).or_default();
         scene.tiles += 1;
-        if !record.tile.is_pyramid_tile() {
+        if record.tile.is_pyramid_tile() {
+            scene.pyramid_tiles += 1;
+        } else {
             let own = edges_of(&record.tile);
             scene.edges = Some(scene.edges.map_or(own, |edges| joined(&edges, &own)));
         }

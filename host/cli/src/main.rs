@@ -1,7 +1,7 @@
 //! The command `czi`: judges, lists, counts and composes CZI microscope files.
 //!
-//! Exit codes: 0 done; 2 refused, with the number, its place and the paper's
-//! words in one line on standard error; 1 for a bad argument, a file that can't
+//! Exit codes: 0 done; 2 refused, with the number, its place and its words in
+//! one line on standard error; 1 for a bad argument, a file that can't
 //! be read or written or was changed meanwhile, streams that take nothing, or
 //! too little memory. A signal that ends the run undoes what was begun, and the
 //! run dies by that signal.
@@ -74,6 +74,16 @@ fn run(mut words: Vec<OsString>) -> Result<Answer, Failure> {
         "help" | "--help" | "-h" => help::asked_for(&words).map(Answer::lines),
         "--version" => Ok(Answer::lines(version())),
         _ if words.iter().any(asks_for_help) => help::asked_for(&[command]).map(Answer::lines),
+        name if !help::COMMANDS.contains(&name) => {
+            Err(Failure::Usage(format!("there is no command {command:?}")))
+        }
+        name => run_command(name, words).map_err(|failure| failure.of_command(name)),
+    }
+}
+
+/// Runs one of the commands.
+fn run_command(name: &str, words: Vec<OsString>) -> Result<Answer, Failure> {
+    match name {
         "judge" => read(words, |file| {
             czi::judge(file)?;
             Ok("accepted\n".to_string())
@@ -85,7 +95,7 @@ fn run(mut words: Vec<OsString>) -> Result<Answer, Failure> {
         "compose" => compose::run(words),
         "extract" => extract::run(words),
         "sample" => sample::run(words),
-        _ => Err(Failure::Usage(format!("there is no command {command:?}"))),
+        _ => Err(Failure::Usage(format!("there is no command {name:?}"))),
     }
 }
 

@@ -59,6 +59,13 @@ pub fn zeros(length: u64) -> Result<Vec<u8>, Failure> {
     Ok(bytes)
 }
 
+/// Fails where there is no memory for so many bytes now; it is not kept.
+pub fn is_there(length: usize) -> Result<(), Failure> {
+    // Else the compiler would take none.
+    std::hint::black_box(room(length as u64)?);
+    Ok(())
+}
+
 /// How many pixels of that size, and their bits of a map, so much memory holds.
 pub fn pixels(memory: u64, bytes: usize) -> u64 {
     (memory - 1) * 8 / (8 * bytes as u64 + 1)

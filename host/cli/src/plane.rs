@@ -11,6 +11,14 @@ use czi::{PixelType, Reason, Refusal, Summary, Tile};
 /// The mark of a selected tile that shares a pixel with the window.
 const MEETS: u8 = 2;
 
+/// A window that the library composes, of a file without a box.
+const ONE_PIXEL: Window = Window {
+    left: 0,
+    top: 0,
+    width: 1,
+    height: 1,
+};
+
 /// A file and what is asked of it.
 pub struct Plane<'a> {
     /// The file.
@@ -69,37 +77,52 @@ impl<'a> Plane<'a> {
         Ok(chosen.meeting != 0)
     }
 
-    /// The type that is asked for, or that of the tiles that meet the window. What
-    /// is refused whatever is lent is refused here.
-    pub fn pixel_type(&self, window: Window) -> Result<u32, Failure> {
-        if let Some(given) = self.question.pixel_type {
-            self.refuse_early(window, given)?;
-            return Ok(given);
-        }
+    /// The type that is asked for, or that of the tiles that meet the window, or the
+    /// first tile's where none does; nothing where there is no tile either. What is
+    /// refused whatever is lent is refused here, and then 23 of the whole window, at
+    /// the first tile of another type in the directory, however it is cut later.
+    pub fn pixel_type(&self) -> Result<Option<u32>, Failure> {
         let tiles: Vec<Tile> = czi::tiles(self.file)?.collect();
         let marked = tiles.iter().zip(&self.marks);
         let meeting = marked.filter(|(_, mark)| **mark == MEETS);
         let mut meeting = meeting.map(|(tile, _)| tile);
-        // Where none meets the window the type makes no difference.
-        let one = meeting.next().or(tiles.first());
-        let pixel_type = one.map_or(PixelType::Gray8, |tile| tile.pixel_type);
-        self.refuse_early(window, pixel_type.number())?;
-        match (one, meeting.find(|tile| tile.pixel_type != pixel_type)) {
-            (Some(one), Some(other)) => Err(two_types(one, other)),
-            _ => Ok(pixel_type.number()),
+        let given = self.question.pixel_type;
+        let one = match given {
+            Some(_) => None,
+            // Where none meets the window the type makes no difference.
+            None => meeting.next().or(tiles.first()),
+        };
+        // Without a window a type that is not listed is refused all the same.
+        let window = self.window.unwrap_or(ONE_PIXEL);
+        let Some(pixel_type) = given.or(one.map(|tile| tile.pixel_type.number())) else {
+            let gray8 = PixelType::Gray8;
+            self.refuse_early(window, gray8.number(), &[0][..gray8.bytes()])?;
+            return Ok(None);
+        };
+        self.refuse_early(window, pixel_type, &self.background(pixel_type))?;
+        match meeting.find(|tile| tile.pixel_type.number() != pixel_type) {
+            None => Ok(Some(pixel_type)),
+            Some(other) => {
+                let failure = another_type(one, other);
+                Err(self.explained(window, pixel_type, failure))
+            }
         }
     }
 
     /// 20 and 21, before memory is taken: they go before 22, which is given where
     /// nothing is lent.
-    fn refuse_early(&self, window: Window, pixel_type: u32) -> Result<(), Failure> {
+    fn refuse_early(
+        &self,
+        window: Window,
+        pixel_type: u32,
+        background: &[u8],
+    ) -> Result<(), Failure> {
         let ends = match self.side {
             u32::MAX => window.ends(),
             _ => [window; 2],
         };
-        let background = self.background(pixel_type);
         for part in ends {
-            let question = self.plain(part, pixel_type, &background);
+            let question = self.plain(part, pixel_type, background);
             let answer = calls::compose_quick(self.file, &question, &mut [], &mut []);
             match answer.result() {
                 Err(refusal) if refusal.reason != Reason::Lent => {
@@ -135,14 +158,15 @@ impl<'a> Plane<'a> {
     }
 }
 
-/// Two tiles that meet the window, the first and another of another type: asked
-/// for the first one's, the library refuses the other.
-fn two_types(one: &Tile, other: &Tile) -> Failure {
+/// A tile that meets the window and has another type than was asked for, or, where
+/// none was, than the first one that meets it has: asked for that one's, the library
+/// refuses the other.
+fn another_type(one: Option<&Tile>, other: &Tile) -> Failure {
     let said = |tile: &Tile| format!("tile {} has {}", tile.entry, types::name(tile.pixel_type));
-    let both = format!("{}, {}", said(one), said(other));
+    let both = one.map(|one| format!("{}, {}", said(one), said(other)));
     let refusal = Refusal {
         reason: Reason::AnotherType,
         place: other.place,
     };
-    Failure::Refused(refusal, Some(both))
+    Failure::Refused(refusal, both)
 }

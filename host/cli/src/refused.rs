@@ -26,6 +26,12 @@ pub fn explain(file: &[u8], asked: &Asked, failure: Failure) -> Failure {
         return failure;
     };
     let more = match refusal.reason {
+        // Where the window is cut, sides of over 65,536 are taken.
+        Reason::Window if asked.side == u32::MAX => {
+            let words = "a side of the window is 0, or an edge is past 2,147,483,647";
+            let more = window(asked).map_or(String::new(), |more| format!(" ({more})"));
+            return Failure::Worded(refusal, format!("{words}{more}"));
+        }
         Reason::Window => window(asked),
         Reason::AskedType => pixel(asked),
         Reason::Lent => Some("the command lent too little".to_string()),
@@ -76,6 +82,25 @@ fn tile(file: &[u8], asked: &Asked, refusal: &Refusal) -> Option<String> {
 mod tests {
     use super::*;
 
+    #[test]
+    fn a_window_that_is_cut_is_refused_by_other_words() {
+        let window = Window {
+            width: 70_000,
+            ..Window::default()
+        };
+        let mut asked = Asked {
+            window,
+            side: u32::MAX,
+            pixel_type: 0,
+            background: 1,
+        };
+        let line = |asked: &Asked| explain(&[], asked, Refusal::new(20, 0).into()).to_string();
+        let words = "refused 20 at 0: a side of the window is 0, or an edge is past 2,147,483,647";
+        assert_eq!(line(&asked), format!("{words} (the height is 0)"));
+        asked.side = 65_536;
+        assert!(line(&asked).contains("65,536") && line(&asked).ends_with("(the width is 70000)"));
+    }
+
     fn said(number: u32, window: Window, pixel_type: u32, background: usize) -> String {
         let asked = Asked {
             window,
@@ -121,7 +146,7 @@ mod tests {
                 "(the background has 3 bytes, a pixel of gray16 has 2)",
             ),
             (22, sound, 0, 1, "(the command lent too little)"),
-            (9, sound, 0, 1, "kind"),
+            (9, sound, 0, 1, "begins"),
         ] {
             let line = said(number, window, pixel_type, background);
             assert!(line.ends_with(ending), "{line}");

@@ -28,7 +28,13 @@ pub fn parse(word: &str) -> Result<u32, Failure> {
     let named = |(name, _): &&(&str, PixelType)| name.eq_ignore_ascii_case(word);
     match NAMES.iter().find(named) {
         Some((_, listed)) => Ok(listed.number()),
-        None => number(word, "--type"),
+        None => number(word, "--type").map_err(|_| {
+            let names: Vec<&str> = NAMES.iter().map(|(name, _)| *name).collect();
+            let names = names.join(", ");
+            Failure::Usage(format!(
+                "--type is a number or one of {names}, not {word:?}"
+            ))
+        }),
     }
 }
 

@@ -79,14 +79,15 @@ fn figures_that_explain_a_count() {
     let lines = prints(&["info", &file]);
     let (_, more) = lines.split_once("box=-50,-60,10,5\n").expect(&lines);
     let wanted = "pyramid_tiles=0\nmasked_tiles=0\ntype=gray8 tiles=2\ntype=gray16 tiles=1\n\
-                  scene=0 tiles=2 box=0,0,10,5\nscene=3 tiles=1 box=-50,-60,-40,-40\n\
+                  scene=0 tiles=2 pyramid_tiles=0 box=0,0,10,5\n\
+                  scene=3 tiles=1 pyramid_tiles=0 box=-50,-60,-40,-40\n\
                   letter=S tiles=3 least=0 greatest=3\n";
     assert_eq!(more, wanted);
     let json = prints(&["info", &file, "--json"]);
     for part in [
         "\"box\":{\"left\":-50,\"top\":-60,\"right\":10,\"bottom\":5}",
         "\"types\":[{\"type\":\"gray8\",\"tiles\":2},{\"type\":\"gray16\",\"tiles\":1}]",
-        "{\"scene\":3,\"tiles\":1,\"box\":{\"left\":-50,\"top\":-60,\"right\":-40,\"bottom\":-40}}]",
+        "{\"scene\":3,\"tiles\":1,\"pyramid_tiles\":0,\"box\":{\"left\":-50,\"top\":-60,\"right\":-40,\"bottom\":-40}}]",
         "\"letters\":[{\"letter\":\"S\",\"tiles\":3,\"least\":0,\"greatest\":3}]",
         "\"attachments\":[]}\n",
     ] {
@@ -115,17 +116,19 @@ fn names_of_attachments_are_printed_on_their_line() {
             .unwrap();
     for place in [entry, copy] {
         bytes[place + 40..place + 48].copy_from_slice(b"a\"b\\\nc\x7Fd");
-        bytes[place + 48..place + 56].copy_from_slice(b"x\xFFy \xC3\xA9\0z");
+        bytes[place + 48..place + 59].copy_from_slice(b"x\xFFy \xC3\xA9\xE2\x80\xAE\0z");
     }
     let file = folder.write("a.czi", &bytes);
     let guid = "{13121110-1514-1716-1819-1A1B1C1D1E1F}";
-    let line =
-        format!("attachment=0 bytes=40 type=a\"b\\?c?d guid={guid} name=x\u{FFFD}y \u{E9}\n");
+    // Quotes and backslashes are escaped, control characters and marks of direction.
+    let (file_type, name) = (
+        "\"a\\\"b\\\\\\u000ac\\u007fd\"",
+        "\"x\u{FFFD}y \u{E9}\\u202e\"",
+    );
+    let line = format!("attachment=0 bytes=40 guid={guid} type={file_type} name={name}\n");
     let lines = prints(&["info", &file]);
     assert!(lines.ends_with(&line), "{lines}");
-    let object = format!(
-        "\"type\":\"a\\\"b\\\\\\u000ac\\u007fd\",\"guid\":\"{guid}\",\"name\":\"x\u{FFFD}y \u{E9}\"}}]}}\n"
-    );
+    let object = format!("\"type\":{file_type},\"guid\":\"{guid}\",\"name\":{name}}}]}}\n");
     let json = prints(&["info", &file, "--json"]);
     assert!(json.ends_with(&object), "{json}");
 }
@@ -248,7 +251,11 @@ fn windows_that_are_refused_are_refused_by_the_library() {
         ),
     ] {
         let count = ["count", &file, "--window", window];
-        fails(&count, 2, "refused 20 at 0: ");
+        fails(
+            &count,
+            2,
+            "refused 20 at 0: a side of the window is 0, or an edge is past",
+        );
         fails(&count, 2, half);
     }
     let last = ["count", &file, "--window", "2147400000,0,83647,1"];
@@ -258,21 +265,37 @@ fn windows_that_are_refused_are_refused_by_the_library() {
 
 #[test]
 fn a_file_without_a_box_covers_nothing() {
-    for (name, tiles) in [("smallest.czi", 0), ("pyramids.czi", 2)] {
-        let wanted = "covered=0\npixels=0\nwindows=0\n";
-        let chosen = "selected=0 meet=0 masks=off scene=0 type=none window=none";
-        assert_eq!(
-            prints(&["count", &sample(name)]),
-            format!("{wanted}tiles={tiles} {chosen}\n")
-        );
-        fails(&["compose", &sample(name)], 1, "no box, so a --window");
+    let types = [("smallest.czi", 0, "none"), ("pyramids.czi", 2, "gray8")];
+    for (name, tiles, found) in types {
+        let file = sample(name);
+        let wanted = |named: &str| {
+            let chosen = "selected=0 meet=0 masks=off scene=0";
+            let counts = "covered=0\npixels=0\nwindows=0";
+            format!("{counts}\ntiles={tiles} {chosen} type={named} window=none\n")
+        };
+        assert_eq!(prints(&["count", &file]), wanted(found));
+        let typed = ["count", &file, "--type", "Bgr48"];
+        assert_eq!(prints(&typed), wanted("bgr48"));
+        fails(&["compose", &file], 1, "no box, so a --window");
+        for command in ["count", "compose"] {
+            for window in [&[][..], &["--window", "0,0,3,3"]] {
+                let typed = [&[command, &file, "--type", "12"], window].concat();
+                fails(&typed, 2, "refused 21 at 0: ");
+                fails(&typed, 2, "(there is no type 12)");
+            }
+        }
     }
     let empty = sample("smallest.czi");
     let counted = prints(&["count", &empty, "--window", "0,0,3,3"]);
     assert!(counted.starts_with("covered=0\npixels=9\nwindows=1\n"));
     assert!(counted.ends_with("type=none window=0,0,3,3\n"));
+    let typed = ["count", &empty, "--window=0,0,3,3", "--type=1"];
+    assert!(prints(&typed).ends_with("type=gray16 window=0,0,3,3\n"));
+    fails(&["count", &empty, "--window=0,0,0,3"], 2, "refused 20 ");
     let window = ["compose", &empty, "--window", "0,0,3,3"];
     fails(&window, 1, "no tiles, so a --type");
+    let pixel = [&window[..], &["--background", "0102"]].concat();
+    fails(&pixel, 1, "no tiles, so a --type");
 }
 
 /// One type among the tiles that count, whatever others the file has.
@@ -321,15 +344,19 @@ fn two_types_are_refused_and_named() {
         fails(&["count", &file, "--jobs", jobs], 2, words);
         fails(&["count", &file, "--jobs", jobs], 2, named);
     }
-    // Two parts are refused: the first is said, however the jobs run.
+    // Two parts are refused: the first in the directory is said, though it lies in
+    // the last part, and however the jobs run.
     let farther = gray16(0, 140_000, 6, 7);
     let tiles = [gray8(0, 0, 5, 5), farther, far];
     let three = folder.write("three.czi", &mosaic(&tiles));
     fails(&["count", &three], 2, named);
     let typed = ["count", &three, "--jobs", "3", "--type", "gray8"];
     for _ in 0..20 {
-        fails(&typed, 2, "(tile 2 has gray16, asked for is gray8)");
+        fails(&typed, 2, "(tile 1 has gray16, asked for is gray8)");
     }
+    let typed = ["count", &sample("free.czi"), "--type", "gray8"];
+    fails(&typed, 2, "refused 23 at 5384: ");
+    fails(&typed, 2, "(tile 1 has gray16, asked for is gray8)");
     // 20 and 21 go before 23.
     fails(&["count", &three, "--window", "0,0,0,1"], 2, "refused 20 ");
     fails(&["compose", &three], 2, "(the height is 140007)");

@@ -26,12 +26,12 @@ fn info_says_the_figures_of_a_file_of_any_size() {
     );
     let mut wanted = fs::read_to_string(sample("mosaic.txt")).unwrap();
     wanted += "pyramid_tiles=0\nmasked_tiles=1\ntype=gray8 tiles=4\n";
-    wanted += "scene=0 tiles=4 box=100,60,143,88\n";
+    wanted += "scene=0 tiles=4 pyramid_tiles=0 box=100,60,143,88\n";
     wanted += "letter=C tiles=4 least=0 greatest=0\n";
     wanted += "letter=M tiles=4 least=0 greatest=3\n";
     wanted += "letter=S tiles=4 least=0 greatest=0\n";
-    wanted += "attachment=0 bytes=40 type=CZTIMS ";
-    wanted += "guid={13121110-1514-1716-1819-1A1B1C1D1E1F} name=TimeStamps\n";
+    wanted += "attachment=0 bytes=40 guid={13121110-1514-1716-1819-1A1B1C1D1E1F} ";
+    wanted += "type=\"CZTIMS\" name=\"TimeStamps\"\n";
     assert_eq!(said(&czi(&["info", &sample("mosaic.czi")])).1, wanted);
 }
 
@@ -39,7 +39,8 @@ fn info_says_the_figures_of_a_file_of_any_size() {
 fn judge_says_the_number_the_place_and_the_words() {
     let accepted = said(&czi(&["judge", &sample("mosaic.czi")]));
     assert_eq!(accepted, (0, "accepted\n".to_string(), String::new()));
-    let words = "refused 9 at 92: a position names no walked segment of its kind";
+    let words = "refused 9 at 92: a directory or the metadata is said to be where no such \
+                 segment begins; czi help refusals says more";
     fails(&["judge", &sample("refusal-09.czi")], 2, words);
     fails(&["info", &sample("refusal-09.czi")], 2, words);
     fails(
@@ -113,7 +114,18 @@ fn help_is_there_for_each_command() {
         assert!(!out.contains('@') && out.lines().all(|line| line.len() <= 82));
         assert_eq!(said(&czi(&["help", command])), (code, out, err));
     }
+    let (code, refusals, _) = said(&czi(&["help", "refusals"]));
+    assert!(code == 0 && refusals.lines().all(|line| line.len() <= 82));
+    for number in (1..=24).filter(|number| *number != 19).chain([30]) {
+        assert!(refusals.contains(&format!("\n{number:>2}  ")), "{number}");
+    }
     fails(&["help", "paint"], 1, "there is no command \"paint\"");
+    // What is wrong with an argument names the help about its command.
+    let named = "--what here (czi help count says how it is called)";
+    fails(&["count", "a", "--what"], 1, named);
+    fails(&["sample"], 1, "(czi help sample says how it is called)");
+    fails(&["paint"], 1, "(czi help says how it is called)");
+    fails(&["refusals", "a"], 1, "there is no command \"refusals\"");
     fails(&["paint", "--help"], 1, "there is no command \"paint\"");
     let version = format!("czi {}\n", env!("CARGO_PKG_VERSION"));
     assert_eq!(said(&czi(&["--version"])), (0, version, String::new()));
@@ -270,7 +282,10 @@ mod compose {
                 vec!["--window", "2147483648,0,1,1", "--type", "0"],
                 "2147483648",
             ),
-            (vec!["--window", "0,0,1,1", "--type", "grey"], "\"grey\""),
+            (
+                vec!["--window", "0,0,1,1", "--type", "grey"],
+                "bgr24, bgr48, bgrfloat",
+            ),
             (with(&["--type", "0"]), "--type is given twice"),
             (with(&["--background", "0"]), "hex"),
             (with(&["--background", "xy"]), "hex"),

@@ -6,7 +6,7 @@
 //! keeps anything. Each question judges the whole file first: what [`judge`]
 //! refuses, all of them refuse alike (but that [`list`] looks at the length
 //! before); [`tiles`] and [`all_records`] give every record for one judgement or
-//! two. A [`Refusal`] has a number of paper 01's table and a place.
+//! two. A [`Refusal`] has a number of the table in docs/RULES.md and a place.
 //!
 //! ```
 //! # fn main() -> Result<(), Box<dyn std::error::Error>> {

@@ -1,6 +1,6 @@
 //! Pixel types.
 
-/// The pixel types that paper 01 lists.
+/// The pixel types that are listed in docs/RULES.md.
 #[derive(Clone, Copy, Debug, PartialEq, Eq)]
 pub enum PixelType {
     /// 0: one byte.

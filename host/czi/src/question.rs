@@ -16,7 +16,7 @@ pub enum Scene {
 /// The choice of masks.
 #[derive(Clone, Copy, Debug, PartialEq, Eq)]
 pub enum Masks {
-    /// Not chosen: off, as in paper 01.
+    /// Not chosen: off.
     NotChosen,
     /// Invalid pixels of a tile are not given.
     On,

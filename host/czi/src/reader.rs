@@ -6,7 +6,7 @@ use crate::refusal::Refusal;
 
 /// Judges a file.
 ///
-/// Refusals: 1 to 18, by the paper's table and in its order.
+/// Refusals: 1 to 18, by the table of docs/RULES.md and in its order.
 pub fn judge(file: &[u8]) -> Result<(), Refusal> {
     calls::judge(file).result()
 }

@@ -1,14 +1,14 @@
-//! Refusals: a number of paper 01's table, with its words, and a place.
+//! Refusals: a number of the table in docs/RULES.md, with words, and a place.
 
 use std::fmt;
 
 macro_rules! reasons {
     ($($name:ident $number:literal $words:literal)*) => {
-        /// Why something was refused: a row of paper 01's table.
+        /// Why something was refused: a row of the table in docs/RULES.md.
         #[derive(Clone, Copy, Debug, PartialEq, Eq)]
         pub enum Reason {
             $(#[doc = $words] $name,)*
-            /// A number that paper 01 does not have.
+            /// A number that the table does not have.
             Other(u32),
         }
 
@@ -29,11 +29,11 @@ macro_rules! reasons {
                 }
             }
 
-            /// The paper's words for it, but that 22 names arrays too.
+            /// A line of words for it.
             pub fn words(self) -> &'static str {
                 match self {
                     $(Reason::$name => $words,)*
-                    Reason::Other(_) => "not in paper 01",
+                    Reason::Other(_) => "there is no such refusal",
                 }
             }
         }
@@ -45,18 +45,18 @@ reasons! {
     Name 2 "unknown name"
     SegmentSizes 3 "AllocatedSize negative or not a multiple of 32; UsedSize negative or larger; end past the file"
     SegmentCount 4 "more than 8,192 segments"
-    FileSegment 5 "first isn't the file segment, a later one is, or its room is under 80"
+    FileSegment 5 "the first segment is not the file segment or is under 80 bytes long, or a later one is a file segment"
     Major 6 "Major not 1"
     FilePart 7 "a FilePart not 0"
     UpdatePending 8 "UpdatePending not 0"
-    Position 9 "a position names no walked segment of its kind"
-    Directory 10 "a directory's fixed part or entries don't fit its room; EntryCount negative or over 4,096; the metadata segment's sizes negative, or 256 plus both over its room"
+    Position 9 "a directory or the metadata is said to be where no such segment begins"
+    Directory 10 "a directory is too short for its entries, or has a negative number of them or over 4,096; or the metadata segment's sizes are negative or too large for it"
     Entry 11 "entry not well formed"
     PixelType 12 "pixel type not listed"
     Compression 13 "compression not 0"
-    NamedSegment 14 "entry names no walked segment of its kind"
-    Copy 15 "fixed part doesn't fit the room, or the copy differs"
-    Sizes 16 "sizes negative, don't fit, or DataSize wrong"
+    NamedSegment 14 "an entry says that its tile or attachment is where none begins"
+    Copy 15 "a tile or attachment says something else of itself than its entry does, or is too short to say it"
+    Sizes 16 "a tile's or an attachment's sizes are negative or too large for it, or a tile has too few or too many bytes of pixels"
     Chunk 17 "chunk not as the rules say"
     Mask 18 "mask not as the rules say"
     Window 20 "window side not 1 to 65,536, or right or bottom edge above 2,147,483,647"

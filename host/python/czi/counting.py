@@ -2,38 +2,62 @@
 
 from typing import NamedTuple
 
-from .pixel import pixel_bytes
-from .plane import chosen, compose, refuse_early, type_of
+from .pixel import PixelType, pixel_bytes
+from .plane import Met, chosen, compose, masks_number, refuse_early
 from .reader import summary
+from .refusal import Refused
 
 # The greatest side of a window that the library composes, and the last column and row.
 _SIDE = 65536
 _LAST = 2**31 - 1
+_WINDOW = 20
 
 
 class Count(NamedTuple):
-    """What was counted, and into how many windows it was cut: their counts add up, which is proved."""
+    """What was counted, and into how many windows it was cut: their counts add up, which is proved. And how many tiles were
+    selected, and how many of these meet the window: fewer than the file has where a scene or a channel was forgotten."""
 
     covered: int
     pixels: int
     windows: int
+    selected: int
+    meeting: int
 
 
 def count(file, window=None, pixel_type=None, *, starts=None, scene=0, masks=False, memory=512 << 20):
     """Counts the covered pixels of a window, which may have sides of over 65,536: it is cut, and the counts are added.
     Windows that no selected tile meets have none, which is proved, and are not composed.
 
-    All is as for compose; window is the summary's box unless given. The windows take at most so many bytes of memory, but
-    at least a row's.
+    All is as for compose, and so is what it selects unless told otherwise: scene 0, starts of 0, masks off. For an area ask
+    with scene="any" and masks=True. window is the summary's box unless given; a file without a box, or without tiles, has no
+    covered pixel. The windows take at most so many bytes of memory, but at least a row's.
+
+    Raises Refused: 20 and 21 first; then 23 where two types are among the tiles in the window, or one that was not asked for.
+    The place is that of the first such tile in the directory, however the window is cut.
     """
+    masks_number(masks)
     if window is None:
         box = summary(file).box
         if box is None:
-            return Count(0, 0, 0)
+            found = chosen(file, (0, 0, 0, 0), starts=starts, scene=scene)
+            if pixel_type is not None:
+                # Of a type that is not listed 21 is said here too.
+                refuse_early(file, (0, 0, 1, 1), pixel_type, starts, scene)
+            return Count(0, 0, 0, found.selected, found.meeting)
         window = box.window
-    pixel_type = type_of(file, window, starts, scene) if pixel_type is None else pixel_type
+    met = Met(file, window, starts, scene)
+    given = pixel_type is not None
+    if not given:
+        pixel_type = PixelType.Gray8 if met.pixel_type is None else met.pixel_type
     for end in ends(*window):
-        refuse_early(file, end, pixel_type, starts, scene)
+        try:
+            refuse_early(file, end, pixel_type, starts, scene)
+        except Refused as refused:
+            if refused.number != _WINDOW:
+                raise
+            more = "count takes any window but one with a side of 0 or an edge past 2,147,483,647"
+            raise Refused(_WINDOW, refused.place, more) from None
+    met.refuse_another(pixel_type, given)
     cut = Cut(*window, pixel_bytes(pixel_type), memory)
     pixels, covered = cut.wide * cut.high, 0
     target = map_ = None
@@ -43,7 +67,7 @@ def count(file, window=None, pixel_type=None, *, starts=None, scene=0, masks=Fal
             target, map_ = bytearray(pixels * pixel_bytes(pixel_type)), bytearray((pixels + 7) // 8)
         plane = compose(file, part, pixel_type, starts=starts, scene=scene, masks=masks, target=target, map=map_)
         covered += plane.covered
-    return Count(covered, cut.width * cut.height, cut.columns * cut.rows)
+    return Count(covered, cut.width * cut.height, cut.columns * cut.rows, met.chosen.selected, met.chosen.meeting)
 
 
 def ends(left, top, width, height):

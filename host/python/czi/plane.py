@@ -5,13 +5,14 @@ from dataclasses import dataclass
 
 from ._lending import apart, fitting, lent
 from ._library import MOST_TILES, library
-from .pixel import pixel_bytes
+from .pixel import PixelType, pixel_bytes
 from .reader import ask, summary, tiles
 from .records import Chosen, Mark
 from .refusal import Refused
 
 _COMPOSERS = {"plain": library.czi_compose_plain, "quick": library.czi_compose_quick}
 _TOO_SHORT = 22
+_ANOTHER_TYPE = 23
 # The letters whose start is asked for by starts.
 _SELECTING = set("ABCDEFGHIJKLNOPQRTUVWZ")
 # A byte that is no mark.
@@ -39,21 +40,31 @@ def compose(file, window=None, pixel_type=None, *, starts=None, scene=0, masks=F
                  first tile where none does
     starts       where the tiles to select start, by letter: {"C": 1}. 0 for the letters that are not given.
     scene        where they start along S, or "any"
-    masks        True: a tile gives only its valid pixels
+    masks        True: a tile gives only its valid pixels. False unless given; nothing else is taken.
     background   one pixel; zeros unless given
     target, map  writable buffers, of any type and at least long enough; bytearrays unless given
     composer     "quick" stores each pixel once, "plain" all that the tiles give; both leave the same
 
-    Raises Refused, 20 to 23 beside those of the file; then no byte of target and map was changed.
+    Raises Refused, 20 to 23 beside those of the file; then no byte of target and map was changed. Two types among the tiles
+    in the window are 23 too where pixel_type is not given.
     """
+    masks_number(masks)
+    if composer not in _COMPOSERS:
+        raise ValueError(f"composer is {composer!r}, which is neither 'plain' nor 'quick'")
     window = tuple(window_of(file) if window is None else window)
-    pixel_type = type_of(file, window, starts, scene) if pixel_type is None else pixel_type
+    met = Met(file, window, starts, scene)
+    given, pixel_type = pixel_type is not None, met.pixel_type if pixel_type is None else pixel_type
+    if pixel_type is None:
+        raise ValueError("the file has no tiles, and so no pixel type: pixel_type has to be given")
     if background is None:
         background = bytes(pixel_bytes(pixel_type))
     question = _question(window, pixel_type, starts, scene, masks)
     call = _COMPOSERS[composer]
     if target is None or map is None:
         _refuse_early(call, file, question, background)
+        if target is None and map is None:
+            # Nothing is lent that could be too short, which would be said before.
+            met.refuse_another(pixel_type, given)
         pixels = window[2] * window[3]
         target = bytearray(pixels * len(memoryview(background).cast("B"))) if target is None else target
         map = bytearray((pixels + 7) // 8) if map is None else map
@@ -85,23 +96,43 @@ def window_of(file):
     return box.window
 
 
-def type_of(file, window, starts, scene):
-    """The one pixel type of the selected tiles that meet the window, or that of the first tile where none does."""
-    marks = chosen(file, window, starts=starts, scene=scene).marks
-    every = tiles(file)
-    meeting = [tile for tile, mark in zip(every, marks) if mark == Mark.Meets]
-    found = sorted({tile.pixel_type for tile in meeting or every[:1]})
-    if len(found) != 1:
-        names = " and ".join(kind.name for kind in found) or "no pixel type"
-        raise ValueError(f"the tiles in the window have {names}: pixel_type has to be given")
-    return found[0]
+class Met:
+    """What a question selects of a file, and the tiles that meet its window, of any sides, in the order of the directory."""
+
+    def __init__(self, file, window, starts, scene):
+        self.chosen = chosen(file, window, starts=starts, scene=scene)
+        every = tiles(file)
+        self.tiles = [tile for tile, mark in zip(every, self.chosen.marks) if mark == Mark.Meets]
+        self._first = (self.tiles or every)[:1]
+
+    @property
+    def pixel_type(self):
+        """That of the first tile that meets the window, or of the first tile; None where the file has no tiles."""
+        return self._first[0].pixel_type if self._first else None
+
+    def refuse_another(self, pixel_type, given):
+        """Raises 23 at the first tile of another type, as the library does of a window that it composes. The type is a listed
+        one, given or that of the first of them."""
+        for tile in self.tiles:
+            if tile.pixel_type != pixel_type:
+                named = PixelType(pixel_type).name
+                has = f"tile {tile.entry} has {tile.pixel_type.name}"
+                raise Refused(_ANOTHER_TYPE, tile.place,
+                              f"{has}, asked for is {named}" if given else f"tile {self.tiles[0].entry} has {named}, {has}")
+
+
+def masks_number(masks):
+    """Masks as the library takes them. What is true in some other way could be meant either way: 'off', 2."""
+    if not isinstance(masks, bool):
+        raise TypeError(f"masks is {masks!r}, and has to be True or False")
+    return 1 if masks else 2
 
 
 def _question(window, pixel_type, starts, scene, masks):
     """The starts, and the numbers behind them up to the background and from there on, as the library takes them."""
     corner, sides = _window(window)
     before = (int(scene == "any"), fitting(pixel_type, 32, "pixel_type"))
-    return _starts(starts, scene), before, (*corner, *sides, 1 if masks else 2)
+    return _starts(starts, scene), before, (*corner, *sides, masks_number(masks))
 
 
 def _window(window):
@@ -118,6 +149,8 @@ def _starts(starts, scene):
         if letter not in _SELECTING:
             raise ValueError(f"{letter!r} has no start to ask for: A to Z have, but X, Y, M, and S, which is scene")
         letters[ord(letter) - ord("A")] = fitting(start, 32, f"the start of {letter}", signed=True)
+    if isinstance(scene, str) and scene != "any":
+        raise ValueError(f"scene is {scene!r}, which is neither a number nor 'any'")
     if scene != "any":
         letters[ord("S") - ord("A")] = fitting(scene, 32, "scene", signed=True)
     return letters, len(letters)

@@ -6,19 +6,20 @@ WORDS = {
     2: "unknown name",
     3: "AllocatedSize negative or not a multiple of 32; UsedSize negative or larger; end past the file",
     4: "more than 8,192 segments",
-    5: "first isn't the file segment, a later one is, or its room is under 80",
+    5: "the first segment is not the file segment or is under 80 bytes long, or a later one is a file segment",
     6: "Major not 1",
     7: "a FilePart not 0",
     8: "UpdatePending not 0",
-    9: "a position names no walked segment of its kind",
-    10: "a directory's fixed part or entries don't fit its room; EntryCount negative or over 4,096; "
-        "the metadata segment's sizes negative, or 256 plus both over its room",
+    9: "a directory or the metadata is said to be where no such segment begins",
+    10: "a directory is too short for its entries, or has a negative number of them or over 4,096; or the metadata "
+        "segment's sizes are negative or too large for it",
     11: "entry not well formed",
     12: "pixel type not listed",
     13: "compression not 0",
-    14: "entry names no walked segment of its kind",
-    15: "fixed part doesn't fit the room, or the copy differs",
-    16: "sizes negative, don't fit, or DataSize wrong",
+    14: "an entry says that its tile or attachment is where none begins",
+    15: "a tile or attachment says something else of itself than its entry does, or is too short to say it",
+    16: "a tile's or an attachment's sizes are negative or too large for it, or a tile has too few or too many "
+        "bytes of pixels",
     17: "chunk not as the rules say",
     18: "mask not as the rules say",
     20: "window side not 1 to 65,536, or right or bottom edge above 2,147,483,647",
@@ -36,13 +37,16 @@ class Refused(Exception):
     number   of the refusal; include/czi.h says when each is given
     place    where, as a byte offset in the file
     words    of the rule
+    more     what is said of it beyond the rule, or nothing
     """
 
-    def __init__(self, number, place):
-        super().__init__(number, place)
+    def __init__(self, number, place, more=""):
+        super().__init__(number, place, more)
         self.number = number
         self.place = place
+        self.more = more
         self.words = WORDS.get(number, "there is no such refusal")
 
     def __str__(self):
-        return f"refused {self.number} at {self.place}: {self.words}"
+        more = f" ({self.more})" if self.more else ""
+        return f"refused {self.number} at {self.place}: {self.words}{more}"

@@ -119,14 +119,44 @@ class Planes(unittest.TestCase):
             self.assertEqual(refusal_of(czi.compose, sample("mosaic"), window, **how), wanted)
 
     def test_what_the_file_does_not_say(self):
-        corner = (-2**31, -2**31, 1, 1)
-        for call in (czi.compose, czi.count):
-            with self.assertRaisesRegex(ValueError, "have Gray8 and GrayFloat and Bgr48 and Bgra32 and BgrComplex:"):
-                call(sample("free"), corner)
         with self.assertRaisesRegex(ValueError, "window"):
             czi.compose(sample("pyramids"))
         with self.assertRaisesRegex(ValueError, "no pixel type"):
             czi.compose(sample("smallest"), (0, 0, 1, 1))
+
+    def test_two_types_are_refused_at_the_first_other_tile(self):
+        file, corner = sample("free"), (-2**31, -2**31, 1, 1)
+        second, third = (czi.tile(file, entry).place for entry in (1, 2))
+        for call in (czi.compose, czi.count):
+            with self.assertRaises(czi.Refused) as caught:
+                call(file, corner)
+            self.assertEqual((caught.exception.number, caught.exception.place), (23, third))
+            self.assertTrue(str(caught.exception).endswith("another type (tile 0 has Gray8, tile 2 has GrayFloat)"))
+            self.assertEqual(refusal_of(call, file, corner, 0), (23, third))
+        # Tile 1 meets the box too, in its last part, and stands before the others.
+        self.assertEqual(refusal_of(czi.count, file), (23, second))
+        with self.assertRaisesRegex(czi.Refused, r"\(tile 1 has Gray16, asked for is Gray8\)"):
+            czi.count(file, pixel_type=0)
+        self.assertEqual(refusal_of(czi.count, file, pixel_type=1), (23, czi.tile(file, 0).place))
+        # 20 and 21 go before it, and 22 where something is lent.
+        self.assertEqual(refusal_of(czi.compose, file), (20, 0))
+        self.assertEqual(refusal_of(czi.count, file, pixel_type=12), (21, 0))
+        self.assertEqual(refusal_of(czi.compose, file, corner, target=bytearray()), (22, 0))
+
+    def test_masks_are_true_or_false(self):
+        for wrong in ("off", "on", 2, 1, 0, None, [], b""):
+            for call in (czi.compose, czi.count):
+                with self.assertRaisesRegex(TypeError, "masks is .* True or False"):
+                    call(sample("mosaic"), masks=wrong)
+            with self.assertRaisesRegex(TypeError, "masks is .* True or False"):
+                czi.count(sample("pyramids"), masks=wrong)
+
+    def test_words_that_mean_nothing_are_named(self):
+        for call in (czi.compose, czi.count, czi.chosen):
+            with self.assertRaisesRegex(ValueError, "scene is 'Any', which is neither a number nor 'any'"):
+                call(sample("mosaic"), scene="Any")
+        with self.assertRaisesRegex(ValueError, "composer is 'fast', which is neither 'plain' nor 'quick'"):
+            czi.compose(sample("mosaic"), composer="fast")
 
 
 class Choosing(unittest.TestCase):
@@ -167,12 +197,12 @@ class Counts(unittest.TestCase):
     def test_a_cut_window_adds_up(self):
         file = sample("mosaic")
         for memory, windows in [(512 << 20, 1), (1355, 1), (1354, 2), (100, 14), (1, 28)]:
-            self.assertEqual(czi.count(file, masks=True, memory=memory), (1138, 43 * 28, windows), memory)
+            self.assertEqual(czi.count(file, masks=True, memory=memory), (1138, 43 * 28, windows, 4, 4), memory)
 
     def test_sides_over_65536(self):
         file = sample("mosaic")
-        self.assertEqual(czi.count(file, (-65500, 0, 70000, 100)), (1174, 7_000_000, 2))
-        self.assertEqual(czi.count(file, (100, -65473, 43, 65600)), (1174, 43 * 65600, 2))
+        self.assertEqual(czi.count(file, (-65500, 0, 70000, 100)), (1174, 7_000_000, 2, 4, 4))
+        self.assertEqual(czi.count(file, (100, -65473, 43, 65600)), (1174, 43 * 65600, 2, 4, 4))
 
     def test_the_windows_tile_the_window(self):
         for width, height, pixel, memory in [(7, 5, 3, 40), (65537, 2, 1, 1 << 20), (3, 65537, 1, 1 << 20), (1, 1, 24, 0)]:
@@ -214,11 +244,23 @@ class Counts(unittest.TestCase):
         self.assertEqual(czi.count(file, plane, scene=7)[0], 0)
 
     def test_nothing_to_count(self):
-        self.assertEqual(czi.count(sample("pyramids")), (0, 0, 0))
+        self.assertEqual(czi.count(sample("pyramids")), (0, 0, 0, 0, 0))
+        self.assertEqual(czi.count(sample("smallest"), (0, 0, 10, 10)), (0, 100, 1, 0, 0))
+        self.assertEqual(czi.count(sample("smallest"), (0, 0, 10, 10), 4), (0, 100, 1, 0, 0))
+        self.assertEqual(czi.count(sample("mosaic"), (100, 60, 1, 70000))[2:], (2, 4, 2))
+        self.assertEqual(czi.count(sample("mosaic"), scene=1)[3:], (0, 0))
         self.assertEqual(refusal_of(czi.count, sample("mosaic"), (100, 60, 0, 28)), (20, 0))
         for window in [(2**31 - 2, 0, 70000, 1), (2**31 - 1 - 65536, 0, 200000, 1), (0, 2**31 - 1, 1, 2**32 - 1)]:
             self.assertEqual(refusal_of(czi.count, sample("mosaic"), window), (20, 0))
-        self.assertEqual(refusal_of(czi.count, sample("mosaic"), (0, 0, 9, 9), 12), (21, 0))
+            with self.assertRaisesRegex(czi.Refused, r"\(count takes any window but one with a side of 0 or an edge past"):
+                czi.count(sample("mosaic"), window)
+        self.assertEqual(refusal_of(czi.count, sample("smallest"), (0, 0, 0, 1)), (20, 0))
+
+    def test_a_type_that_is_not_listed_is_refused_of_every_file(self):
+        for name in ("mosaic", "pyramids", "smallest"):
+            self.assertEqual(refusal_of(czi.count, sample(name), pixel_type=12), (21, 0), name)
+            self.assertEqual(refusal_of(czi.count, sample(name), (0, 0, 9, 9), 12), (21, 0), name)
+            self.assertEqual(refusal_of(czi.compose, sample(name), (0, 0, 9, 9), 12), (21, 0), name)
 
 
 if __name__ == "__main__":
