@@ -13,7 +13,7 @@ file in one run; the other lines say what each block is for:
 
 guard:  a name, once in its crate.
 of:     what it guards: rows of the refusal table by number, with condition, place or order; or a try in words. More, by ';'.
-at:     the function, or the file of laws, and the need, or the law, at which it must be refused.
+at:     the function, or the file of laws, and the need, the fact that it rests on, or the law, at which it must be refused.
 why:    why that need is false then. Needed where the prover names no numbers at which it fails.
 A block may have several old:/new: pairs: two tests that change places.
 """

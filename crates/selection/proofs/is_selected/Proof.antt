@@ -2,7 +2,7 @@
 use Prim.Native.Nat.{_-_}
 use native.Mathlib.Omega.{arith}
 use borrow.Author.Needs.{needs}
-use Rattle.format.proofs.Flags.{flags}
+use Rattle.format.proofs.Flags.{cond-true, is-true}
 use Rattle.selection.specs.Select.{selects}
 use Rattle.selection.proofs.Selecting.{Fitting, fitting-start, fitting-next, fitting-fails, fitting-end}
 use Rattle.selection.proofs.is_selected.Statement.{statement}
@@ -16,7 +16,7 @@ abbrev μ-loop : tie.MeasureT-loop
 
 returns : tie.Need-returns Inv-loop μ-loop
 unfolding selects
-returns c = search flags depth 8
+returns c = search (cond-true, is-true)
 
 loop-holds : tie.Need-loop-holds Inv-loop μ-loop
 loop-holds c = fitting-start _ _ _ _

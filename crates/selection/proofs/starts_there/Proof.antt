@@ -5,14 +5,14 @@ use mathlib.Core.Path.{_≡_}
 use mathlib.Core.Bool.{true}
 use borrow.Author.Tests.{eq-eqb}
 use borrow.Author.Needs.{needs}
-use Rattle.format.proofs.Flags.{flags, is-false}
+use Rattle.format.proofs.Flags.{flags, cond-true, is-true, is-false}
 use Rattle.selection.specs.Select.{tileStart, askedStart, startsThere}
 use Rattle.selection.proofs.starts_there.Statement.{statement}
 use Rattle.selection.proofs.starts_there.Tie as tie
 
 returns : tie.Need-returns
 unfolding startsThere
-returns c = search flags depth 8
+returns c = search (cond-true, is-true)
 
 -- where the second test is taken the tile starts where the question says; this rests on that test alone
 taken-2 : (c : tie.Then2)
