@@ -240,7 +240,7 @@ fn attachment_entry_place(s: &[u8], n: u64) -> u64
 }
 
 // Where attachment n stands.
-fn attachment_place(s: &[u8], n: u64) -> u64
+fn attachment_segment(s: &[u8], n: u64) -> u64
     requires { ⌜ attachmentVerdict (scanOf (now s)) n ≡ Accepted ⌝ }
     ensures { λ r. ⌜ r ≡ attachmentPosition (now (s .entry)) (attachmentEntry (attachmentDirectoryPosition (now (s .entry))) n) ⌝ }
 {
@@ -267,7 +267,7 @@ pub fn attachment(s: &[u8], n: u64) -> AttachmentAnswer
         Verdict::Refused { number, place } => AttachmentAnswer::Refused { number, place },
         Verdict::Accepted => {
             let e = attachment_entry_place(s, n);
-            let q = attachment_place(s, n);
+            let q = attachment_segment(s, n);
             let data = data_span(s, n, q);
             AttachmentAnswer::Found(Attachment {
                 place: e,
@@ -285,7 +285,7 @@ pub fn attachment_data_span(s: &[u8], n: u64) -> SpanAnswer
     let v = attachment_refusal(s, n);
     match v {
         Verdict::Refused { number, place } => SpanAnswer::Refused { number, place },
-        Verdict::Accepted => SpanAnswer::Found(data_span(s, n, attachment_place(s, n))),
+        Verdict::Accepted => SpanAnswer::Found(data_span(s, n, attachment_segment(s, n))),
     }
 }
 

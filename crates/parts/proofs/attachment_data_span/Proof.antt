@@ -13,7 +13,7 @@ returns-2 : tie.Need-returns-2
 unfolding attachmentData
 returns-2 c =
     let k = c .before .before in
-    span-found (k .before .before .attachment-refusal .ensures) (k .enum-told .given .1) (rw (← c .before .attachment-place .ensures) (c .data-span .ensures))
+    span-found (k .before .before .attachment-refusal .ensures) (k .enum-told .given .1) (rw (← c .before .attachment-segment .ensures) (c .data-span .ensures))
 
 pub attachment-data-span-spec : {M : Type 1} → statement M
 attachment-data-span-spec =
