@@ -42,7 +42,7 @@ abbrev given-1 : tie.Else1 → List ℕ × ℕ
 given-1 c = let a = c .before .before .before .args in (now (a .s), a .e)
 
 abbrev given-2 : tie.Else2 → List ℕ × ℕ
-given-2 c = given-1 (c .before .before .before)
+given-2 c = let a = c .before .before .before .before .before .before .args in (now (a .s), a .e)
 
 abbrev given-3 : tie.Else3 → List ℕ × ℕ
 given-3 c = given-2 (c .before .before)
