@@ -8,6 +8,8 @@ pub mod Segments
 pub mod File
 pub mod Entry
 pub mod SubBlock
+pub mod Markup
+pub mod Container
 pub mod Masks
 pub mod Directory
 pub mod Attachments

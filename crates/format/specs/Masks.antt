@@ -1,12 +1,13 @@
--- The chunk container and the valid-pixel mask: the marker, chunks, the refusals 17 and 18, and which pixels are valid.
+-- The chunk container and the valid-pixel mask: chunks, the refusals 17 and 18, and which pixels are valid.
 -- A chunk is given by the file offset of its header; `end` is the file offset behind the attachment.
 use Prim.Native.Nat.{ℕ, zero, suc, _+_, _-_, _*_, _/_, _%_, _^_}
 use mathlib.Core.List.{List, [], _∷_, _++_}
 use mathlib.Core.Bool.{Bool, false, cond, not, _||_}
 use lib.ListN.{getD}
 use lib.Dec.{eqb, ltb}
-use Rattle.format.specs.Bytes.{u32At, sameAt, anyOf, anyBelow, negative32}
-use Rattle.format.specs.Names.{containerMarker, maskGuid}
+use Rattle.format.specs.Bytes.{u32At, sameAt, anyOf, negative32}
+use Rattle.format.specs.Names.{maskGuid}
+use Rattle.format.specs.Container.{isContainer}
 use Rattle.format.specs.Checks.{Check, row}
 use Rattle.format.specs.SubBlock.{metadataSize, metadataPlace}
 use Rattle.format.specs.declared.MaskShape.{MaskShape}
@@ -15,10 +16,7 @@ use Rattle.format.specs.declared.Chunk.{Chunk}
 use Rattle.format.specs.declared.TileMask.{TileMask}
 use Rattle.format.specs.declared.TileMask.the-variants.{Unmasked, Masked}
 
--- ---- the attachment is a chunk container when the marker (39 bytes) stands anywhere in the n bytes of metadata from p on
-
-unfoldable pub isContainer : List ℕ → ℕ → ℕ → Bool
-isContainer bs p n = anyBelow (n + 1 - 39) (λ i. sameAt bs (p + i) containerMarker)
+-- ---- the attachment is a chunk container when its metadata declare one
 
 -- the attachment of the sub-block at q of the file bs, its entry at e of the file ds, is a chunk container
 unfoldable pub hasChunks : List ℕ → ℕ → List ℕ → ℕ → Bool

@@ -42,14 +42,25 @@ markTile = 68 ∷ 86 ∷ []
 unfoldable pub markAttachment : List ℕ
 markAttachment = 65 ∷ 49 ∷ []
 
--- ---- masks
+-- ---- the container's section in a sub-block's metadata: the names of its three tags, and its text
 
--- <DataFormat>CHUNKCONTAINER</DataFormat>
-unfoldable pub containerMarker : List ℕ
-containerMarker =
-    60 ∷ 68 ∷ 97 ∷ 116 ∷ 97 ∷ 70 ∷ 111 ∷ 114 ∷ 109 ∷ 97 ∷ 116 ∷ 62 ∷
-    67 ∷ 72 ∷ 85 ∷ 78 ∷ 75 ∷ 67 ∷ 79 ∷ 78 ∷ 84 ∷ 65 ∷ 73 ∷ 78 ∷ 69 ∷ 82 ∷
-    60 ∷ 47 ∷ 68 ∷ 97 ∷ 116 ∷ 97 ∷ 70 ∷ 111 ∷ 114 ∷ 109 ∷ 97 ∷ 116 ∷ 62 ∷ []
+-- METADATA
+unfoldable pub tagMetadata : List ℕ
+tagMetadata = 77 ∷ 69 ∷ 84 ∷ 65 ∷ 68 ∷ 65 ∷ 84 ∷ 65 ∷ []
+
+-- AttachmentSchema
+unfoldable pub tagSchema : List ℕ
+tagSchema = 65 ∷ 116 ∷ 116 ∷ 97 ∷ 99 ∷ 104 ∷ 109 ∷ 101 ∷ 110 ∷ 116 ∷ 83 ∷ 99 ∷ 104 ∷ 101 ∷ 109 ∷ 97 ∷ []
+
+-- DataFormat
+unfoldable pub tagFormat : List ℕ
+tagFormat = 68 ∷ 97 ∷ 116 ∷ 97 ∷ 70 ∷ 111 ∷ 114 ∷ 109 ∷ 97 ∷ 116 ∷ []
+
+-- CHUNKCONTAINER
+unfoldable pub textContainer : List ℕ
+textContainer = 67 ∷ 72 ∷ 85 ∷ 78 ∷ 75 ∷ 67 ∷ 79 ∷ 78 ∷ 84 ∷ 65 ∷ 73 ∷ 78 ∷ 69 ∷ 82 ∷ []
+
+-- ---- masks
 
 -- the mask GUID {CBE3EA67-5BFC-492B-A16A-ECE378031448} as it is stored: 67 EA E3 CB FC 5B 2B 49 A1 6A EC E3 78 03 14 48
 unfoldable pub maskGuid : List ℕ
