@@ -1,0 +1,18 @@
+-- Stretches of the metadata, by the places where they begin and end in the file.
+use Prim.Native.Nat.{ℕ, _-_, _≤_}
+use mathlib.Core.Path.{_≡_}
+use mathlib.Core.List.{List}
+use mathlib.Core.Bool.{Bool}
+use Rattle.format.specs.Bytes.{partOf}
+use Rattle.format.specs.Markup.{front, behind}
+
+-- the bytes from `from` up to `to`
+unfoldable pub stretch : List ℕ → ℕ → ℕ → List ℕ
+stretch bs from to = partOf bs from (to - from)
+
+-- the bytes of the class reach from `at` to `stop`, and no further before `end`
+pub record Passed (of : ℕ → Bool) (bs : List ℕ) (at end stop : ℕ) : Type 0 where
+  pub from : at ≤ stop
+  pub to : stop ≤ end
+  pub before : front of (stretch bs at end) ≡ stretch bs at stop
+  pub rest : behind of (stretch bs at end) ≡ stretch bs stop end
