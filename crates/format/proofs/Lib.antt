@@ -9,3 +9,4 @@ pub mod Walk
 pub mod ChunkWalk
 pub mod FileRows
 pub mod Acceptance
+pub mod Reading
