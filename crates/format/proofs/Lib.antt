@@ -10,3 +10,7 @@ pub mod ChunkWalk
 pub mod FileRows
 pub mod Acceptance
 pub mod Reading
+pub mod Stretches
+pub mod Attributes
+pub mod Tags
+pub mod Markup

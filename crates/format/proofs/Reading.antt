@@ -33,6 +33,11 @@ unfolding Option·elim
 if-found P Q none f h g = tt
 if-found P Q (some a) f h g = g a h
 
+-- what has one property has another
+pub if-so : {A : Type 0} (P Q : A → Type 0) (o : Option A) → ((a : A) → P a → Q a) → IfFound P o → IfFound Q o
+if-so P Q none f h = tt
+if-so P Q (some a) f h = f a h
+
 -- ---- what stands behind is part of the bytes
 
 drop-shorter : (k : ℕ) (bs : List ℕ) → length (drop k bs) ≤ length bs
