@@ -14,3 +14,5 @@ pub mod Stretches
 pub mod Attributes
 pub mod Tags
 pub mod Markup
+pub mod Nesting
+pub mod Declaring
