@@ -26,6 +26,7 @@ stage-none (emptyTag c) = stage-none c
 stage-none (passed c) = stage-none c
 stage-none (element name inner c) = stage-none c
 
+-- so the section has not ended
 not-ended : (c : Nodes) → eqb (stageOf 0 c) 2 ≡ true → ⊥
 not-ended c e = true≢false (sym e ∙ rw (stage-none c))
 
@@ -50,11 +51,13 @@ ended-tag (emptyTag c) e = absurd (not-ended c e)
 ended-tag (passed c) e = absurd (not-ended c e)
 ended-tag (element name inner c) e = absurd (not-ended c e)
 
+-- an element that is the section has its three names open and its text alone
 section-is : (names : List (List ℕ)) (inner : Nodes) → isSection names inner ≡ true → (inSection names ≡ true) × (inner ≡ words textContainer nothing)
 unfolding isSection
 section-is names inner e =
     by-bool (inSection names) (λ s. (s, ended-tag inner (rw s at e))) (λ s. absurd (not-ended inner (rw s at e)))
 
+-- an element with them is the section
 is-section : (names : List (List ℕ)) → inSection names ≡ true → isSection names (words textContainer nothing) ≡ true
 unfolding isSection stageOf
 is-section names e = rw (e, same-own textContainer)
@@ -65,6 +68,7 @@ is-section names e = rw (e, same-own textContainer)
 abbrev Holds : List (List ℕ) → List ℕ → Nodes → Type 0
 Holds names name inner = (hasSection (name ∷ names) inner || isSection (name ∷ names) inner) ≡ true
 
+-- nodes that hold the section have an element that is it or holds it
 in-child : (names : List (List ℕ)) (c : Nodes) → hasSection names c ≡ true
     → (name : List ℕ) × (inner : Nodes) × Child name inner c × Holds names name inner
 unfolding hasSection
@@ -77,6 +81,7 @@ in-child names (element name inner c) e =
     (λ h. (name, inner, inl (refl, refl), h))
     (λ h. let x = in-child names c (rw h at e) in (x .0, x .1, inr (x .2), x .3))
 
+-- an element that is the section or holds it makes the nodes hold it
 child-in : (names : List (List ℕ)) (c : Nodes) (name : List ℕ) (inner : Nodes) → Child name inner c → Holds names name inner → hasSection names c ≡ true
 unfolding hasSection
 child-in names nothing name inner h e = absurd h
@@ -110,6 +115,7 @@ own-names : inSection (tagFormat ∷ tagSchema ∷ tagMetadata ∷ []) ≡ true
 unfolding inSection
 own-names = rw (same-own tagFormat, same-own tagSchema, same-own tagMetadata)
 
+-- open tags that are the section's three
 names-are : (f s m : List ℕ) → inSection (f ∷ s ∷ m ∷ []) ≡ true → (f ≡ tagFormat) × (s ≡ tagSchema) × (m ≡ tagMetadata)
 unfolding inSection
 names-are f s m e =
@@ -125,6 +131,7 @@ record Section (c : Nodes) : Type 0 where
   second : Child tagSchema schema metadata
   last : Child tagFormat (words textContainer nothing) schema
 
+-- nodes with the section's three elements hold it
 has-section : (c : Nodes) → Section c → hasSection [] c ≡ true
 has-section c x =
     let inner : Nodes = words textContainer nothing in
@@ -134,6 +141,7 @@ has-section c x =
     let d : Holds [] tagMetadata (x .metadata) = rw (child-in (tagMetadata ∷ []) (x .metadata) tagSchema (x .schema) (x .second) b) in
     child-in [] c tagMetadata (x .metadata) (x .outermost) d
 
+-- nodes that hold the section have its three elements
 section-in : (c : Nodes) → hasSection [] c ≡ true → Section c
 section-in c e =
     let a = in-child [] c e in
@@ -151,6 +159,7 @@ section-in c e =
 
 -- ---- metadata
 
+-- items that the function takes declare a container
 declared : (items : List Item) → declares items ≡ true → Declares items
 unfolding declares
 declared items e =
@@ -167,6 +176,7 @@ declared items e =
       last = x .last;
     }
 
+-- items that declare a container are taken by the function
 declaring : (items : List Item) → Declares items → declares items ≡ true
 unfolding declares
 declaring items d =
@@ -178,6 +188,7 @@ declaring items d =
 pub declares-iff : (items : List Item) → Declares items ↔ (declares items ≡ true)
 declares-iff items = (declaring items, declared items)
 
+-- bytes whose items the function takes declare a container
 read-declares : (bs : List ℕ) (o : Option (List Item)) → readsAs bs ≡ o → Option·elim o false declares ≡ true → Container bs
 unfolding Option·elim
 read-declares bs none r e = absurd (true≢false (sym e))

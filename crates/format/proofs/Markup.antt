@@ -42,26 +42,31 @@ skip-found k body rest f = rw (drop-front (opener k) (body ++ (closer k ++ rest)
 
 -- ---- which kind of item begins
 
+-- a skipped part
 at-skip : (k : Skip) (ys : List ℕ) → itemAt (opener k ++ ys) ≡ skipAt k (opener k ++ ys)
 unfolding itemAt markAt begins opener
 at-skip comment ys = refl
 at-skip instruction ys = refl
 at-skip section ys = refl
 
+-- an end tag
 at-end : (ys : List ℕ) → itemAt (60 ∷ 47 ∷ ys) ≡ endTagAt ys
 unfolding itemAt markAt begins opener
 at-end ys = refl
 
+-- a start tag or an empty-element tag
 at-tag : (name ys : List ℕ) → Name name → Begins (λ b. not (eqb b 63)) name → itemAt (60 ∷ name ++ ys) ≡ tagAt (name ++ ys)
 unfolding itemAt markAt begins opener isName every nameByte white anyOf
 at-tag [] ys n h = absurd (true≢false (sym (n .named)))
 at-tag (b ∷ name) ys n h =
     rw (not-true (eqb b 33) (n .named), not-true (eqb b 63) h, not-of nameByte b 47 (and-both (nameByte b) (every nameByte name) (n .whole) .0) refl)
 
+-- anything that `<` begins
 at-mark : (bs : List ℕ) → itemAt (60 ∷ bs) ≡ markAt (60 ∷ bs)
 unfolding itemAt begins
 at-mark bs = refl
 
+-- text
 at-text : (b : ℕ) (bs : List ℕ) → textByte b ≡ true → itemAt (b ∷ bs) ≡ some (text (front textByte (b ∷ bs)), behind textByte (b ∷ bs))
 unfolding itemAt begins textByte
 at-text b bs h = rw (not-true (eqb b 60) h)
@@ -90,6 +95,7 @@ front-some : (of : ℕ → Bool) (b : ℕ) (bs : List ℕ) → of b ≡ true →
 unfolding front
 front-some of b bs h e = cons≢nil (rw h at e)
 
+-- text
 text-right : (b : ℕ) (bs : List ℕ) → textByte b ≡ true → Text (front textByte (b ∷ bs)) (b ∷ bs) (behind textByte (b ∷ bs))
 text-right b bs h =
     record {
@@ -99,6 +105,7 @@ text-right b bs h =
       written = front-behind textByte (b ∷ bs);
     }
 
+-- of any bytes
 item-right : (b : ℕ) (bs : List ℕ) → IfFound (Right (b ∷ bs)) (itemAt (b ∷ bs))
 unfolding textByte
 item-right b bs =
@@ -147,6 +154,7 @@ front-not-nothing skipped rest t = go (t .kind) (t .written)
     go instruction e = unfold opener in nil≢cons e
     go section e = unfold opener in nil≢cons e
 
+-- the items of the relation are those of the function
 reads-found : (items : List Item) (bs : List ℕ) → Reads bs items → readsAs bs ≡ some items
 unfolding Option·elim after
 reads-found [] bs e = rw e reads-nothing
@@ -180,6 +188,7 @@ unfolding Option·elim
 some-item none e = Option·some-ne-none _ (sym e)
 some-item (some f) e = after-some (f .0) (readsAs (f .1)) e
 
+-- the items of the function are those of the relation
 found-reads : (items : List Item) (bs : List ℕ) → readsAs bs ≡ some items → Reads bs items
 found-reads [] [] e = refl
 found-reads [] (b ∷ bs) e = absurd (some-item (itemAt (b ∷ bs)) (sym (reads-step b bs) ∙ e))

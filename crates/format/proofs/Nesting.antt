@@ -15,11 +15,13 @@ use Rattle.format.proofs.Below.{by-bool, and-both}
 
 -- ---- byte strings
 
+-- a byte string is the same as itself
 pub same-own : (xs : List ℕ) → sameBytes xs xs ≡ true
 unfolding sameBytes
 same-own [] = refl
 same-own (x ∷ xs) = rw (eq-eqb x x refl) (same-own xs)
 
+-- byte strings that are the same are equal
 pub same-is : (xs ys : List ℕ) → sameBytes xs ys ≡ true → xs ≡ ys
 unfolding sameBytes
 same-is [] [] e = refl
@@ -92,6 +94,7 @@ nested-more k (name ∷ names) rest front more e h n = (
   n .4,
 )
 
+-- an element more
 nested-element : (k : ℕ) (name : List ℕ) (names : List (List ℕ)) (items : List Item) → Nested k (name ∷ names) items → Nested (suc k) names (start name ∷ items)
 nested-element k name names items n =
     let inner : Nodes = n .0 in
@@ -100,6 +103,7 @@ nested-element k name names items n =
     (λ c. ap (λ r. start name ∷ r) (append-assoc (itemsOf inner) (close name ∷ []) (itemsOf c)))
     (λ c h. (n .3, h)) (n .4))
 
+-- what ends well nests
 nested : (items : List Item) (found : Bool) (stage : ℕ) (names : List (List ℕ)) (k : ℕ) → length names + k ≡ 64
     → endsWell found stage names items ≡ true → Nested k names items
 unfolding endsWell

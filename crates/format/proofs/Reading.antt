@@ -40,6 +40,7 @@ if-so P Q (some a) f h = f a h
 
 -- ---- what stands behind is part of the bytes
 
+-- no more bytes are left than there were
 drop-shorter : (k : ℕ) (bs : List ℕ) → length (drop k bs) ≤ length bs
 drop-shorter zero bs = omega arith
 drop-shorter (suc k) [] = omega arith
@@ -69,6 +70,7 @@ tag-shorter n q last (b ∷ bs) h =
 
 -- ---- an item
 
+-- no kind of item leaves more bytes than its own reading began with
 tagAt-shorter : (n : ℕ) (bs : List ℕ) → length bs ≤ n → IfFound (Leaves n) (tagAt bs)
 unfolding tagAt
 tagAt-shorter n bs h =
@@ -89,6 +91,7 @@ endTagAt-shorter n bs h =
     either (IfFound (Leaves n)) (isName (front nameByte bs)) _ none
     (closed-shorter n (front nameByte bs) (behind white (behind nameByte bs)) (omega arith)) tt
 
+-- a skipped part, and whatever `<` begins, leaves fewer bytes than there were
 skipAt-shorter : (k : Skip) (b : ℕ) (bs : List ℕ) → IfFound (Leaves (length bs)) (skipAt k (b ∷ bs))
 unfolding skipAt
 skipAt-shorter k b bs =

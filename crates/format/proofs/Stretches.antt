@@ -14,7 +14,7 @@ use Rattle.format.proofs.Reading.{IfFound, if-so}
 
 -- ---- a class of bytes
 
--- a byte of the class is none that is not of it
+-- a byte of the class is not a byte that is not of it
 pub not-of : (of : ℕ → Bool) (b c : ℕ) → of b ≡ true → of c ≡ false → eqb b c ≡ false
 not-of of b c h k = ne-eqb b c (λ e. true≢false (sym h ∙ ap of e ∙ k))
 
@@ -25,11 +25,13 @@ module _ (of : ℕ → Bool) where
   front-behind [] = refl
   front-behind (b ∷ bs) = by-bool (of b) (λ e. rw e (ap (λ r. b ∷ r) (front-behind bs))) (λ e. rw e)
 
+  -- each byte of that stretch is of the class
   pub every-front : (bs : List ℕ) → every of (front of bs) ≡ true
   unfolding every front
   every-front [] = refl
   every-front (b ∷ bs) = by-bool (of b) (λ e. rw (e, e) (every-front bs)) (λ e. rw e)
 
+  -- the rest begins with a byte that is not of it
   pub behind-begins : (bs : List ℕ) → Begins (λ b. not (of b)) (behind of bs)
   unfolding behind
   behind-begins [] = tt
@@ -59,11 +61,13 @@ pub drop-front : (xs ys : List ℕ) → drop (length xs) (xs ++ ys) ≡ ys
 drop-front [] ys = refl
 drop-front (x ∷ xs) ys = drop-front xs ys
 
+-- xs and more begin with xs
 pub begins-own : (xs ys : List ℕ) → begins xs (xs ++ ys) ≡ true
 unfolding begins
 begins-own [] ys = refl
 begins-own (x ∷ xs) ys = rw (eq-eqb x x refl) (begins-own xs ys)
 
+-- what begins with xs is xs and what stands behind
 pub begins-is : (xs bs : List ℕ) → begins xs bs ≡ true → bs ≡ xs ++ drop (length xs) bs
 unfolding begins
 begins-is [] bs h = refl
@@ -93,11 +97,12 @@ pub record BehindFirst (xs bs rest : List ℕ) : Type 0 where
   pub written : bs ≡ body ++ (xs ++ rest)
   pub first : NoneBefore xs body
 
--- bytes of which there are none
+-- no bytes are the empty list
 nothing-long : (xs : List ℕ) → length xs ≤ 0 → xs ≡ []
 nothing-long [] h = refl
 nothing-long (x ∷ xs) h = absurd (omega arith)
 
+-- the length of three parts
 lengths : (xs ys zs : List ℕ) → length (xs ++ (ys ++ zs)) ≡ length xs + (length ys + length zs)
 lengths xs ys zs = length-append xs (ys ++ zs) ∙ ap (λ n. length xs + n) (length-append ys zs)
 
@@ -121,12 +126,13 @@ first-behind x xs (b ∷ body) rest f =
     (λ e. absurd (not-yet (x ∷ xs) b body rest f e))
     (λ e. rw e (first-behind x xs body rest (λ before after h. f (b ∷ before) after (ap (λ r. b ∷ r) h))))
 
--- nothing stands before, and one byte more
+-- nothing stands before
 none-before-here : (xs : List ℕ) → NoneBefore xs []
 none-before-here xs before after h =
     let sum : length xs ≡ length before + (length xs + length after) = ap length h ∙ lengths before xs after in
     nothing-long after (omega arith)
 
+-- one byte more stands before, and xs do not begin there
 none-before-next : (xs : List ℕ) (b : ℕ) (body rest : List ℕ) → begins xs (b ∷ body ++ (xs ++ rest)) ≡ false → NoneBefore xs body → NoneBefore xs (b ∷ body)
 none-before-next xs b body rest e f [] after h =
     let is : b ∷ body ++ (xs ++ rest) ≡ xs ++ (after ++ rest) = sym (append-assoc (b ∷ body) xs rest) ∙ ap (λ r. r ++ rest) h ∙ append-assoc xs after rest in

@@ -27,16 +27,18 @@ unfolding front
 begins-front p of [] h = tt
 begins-front p of (b ∷ bs) h = by-bool (of b) (λ e. rw e h) (λ e. rw e tt)
 
+-- how the first part of bytes begins
 begins-part : (p : ℕ → Bool) (xs ys : List ℕ) → Begins p (xs ++ ys) → Begins p xs
 begins-part p [] ys h = tt
 begins-part p (x ∷ xs) ys h = h
 
--- no name goes on with white space or `>`
+-- `>` is in no name
 parted-end : (xs rest : List ℕ) → Begins (λ b. not (nameByte b)) xs → Begins (λ b. not (nameByte b)) (xs ++ (62 ∷ rest))
 unfolding nameByte white anyOf
 parted-end [] rest h = refl
 parted-end (x ∷ xs) rest h = h
 
+-- white space is in no name
 parted-white : (space : List ℕ) → every white space ≡ true → Begins (λ b. not (nameByte b)) space
 unfolding nameByte every anyOf
 parted-white [] h = tt
