@@ -9,3 +9,10 @@ pub mod Walk
 pub mod ChunkWalk
 pub mod FileRows
 pub mod Acceptance
+pub mod Reading
+pub mod Stretches
+pub mod Attributes
+pub mod Tags
+pub mod Markup
+pub mod Nesting
+pub mod Declaring
