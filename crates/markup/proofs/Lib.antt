@@ -3,3 +3,6 @@ pub mod Classes
 pub mod Stretching
 pub mod Comparing
 pub mod Tagging
+pub mod Skipping
+pub mod Naming
+pub mod Marking

@@ -118,7 +118,10 @@ fn is_name(s: &[u8], at: u64, stop: u64) -> bool
     if at == stop {
         return false;
     }
-    fields::byte_at(s, at) != 33
+    if fields::byte_at(s, at) == 33 {
+        return false;
+    }
+    true
 }
 
 // A start tag or an empty-element tag, from behind `<` on.

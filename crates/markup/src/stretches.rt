@@ -1,12 +1,9 @@
 // Stretches of the metadata: to where bytes of a class reach, and where a string of bytes stands first.
 ghost use mathlib.Core.Path.{_≡_};
-ghost use mathlib.Core.Bool.{_&&_};
-ghost use Prim.Native.Nat.{_+_, _<_, _≤_};
+ghost use Prim.Native.Nat.{_+_, _≤_};
 ghost use lib.ListN.{length};
-ghost use lib.Dec.{eqb};
-ghost use Rattle.format.specs.Bytes.{sameAt, leastBelow};
 ghost use Rattle.format.specs.Markup.{white, nameByte, textByte, begins};
-ghost use Rattle.markup.specs.Stretches.{stretch, Passed};
+ghost use Rattle.markup.specs.Stretches.{stretch, Passed, First};
 
 // Whether a byte is white space.
 fn is_white(b: u64) -> bool
@@ -102,7 +99,7 @@ pub fn begins_with(s: &[u8], at: u64, end: u64, m: &[u8]) -> bool
 // The first of the count positions from p on at which m stands; count where there is none.
 pub fn first_of(s: &[u8], p: usize, count: usize, m: &[u8]) -> usize
     requires { ⌜ p + count + length (now m) ≤ length (now s) + 1 ⌝ }
-    ensures { λ r. ⌜ (r ≤ count) × (r ≡ leastBelow count (λ i. sameAt (now (s .entry)) (p + i) (now (m .entry)))) ⌝ }
+    ensures { λ r. ⌜ First (now (m .entry)) (now (s .entry)) p count r ⌝ }
 {
     let mut i: usize = 0;
     'outer: while i < count {

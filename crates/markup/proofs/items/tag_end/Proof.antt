@@ -23,7 +23,7 @@ loop-again c =
     let b = c .before .before .before .before .before in
     let l = b .before .before in
     tagging-next _ _ _ _ _ _ (l .loop .inv) (omega arith) _ (b .byte-at .ensures .0) (omega arith) _ _ _
-    (c .before .before .before .before .is-outside .ensures) (c .before .before .is-outside-2 .ensures) (c .before .before .before .if1 .left) (c .before .if2 .left)
+    (c .before .before .before .before .is-outside .ensures) (c .before .before .is-outside2 .ensures) (c .before .before .before .if1 .left) (c .before .if2 .left)
     (c .quote-after .ensures)
 
 pub tag-end-spec : {M : Type 1} → statement M

@@ -1,75 +1,55 @@
+-- `markup::stretches::first_of` meets its contract.
+use Prim.Native.Nat.{_+_, _-_, _≤_}
+use denote.Ref.{now}
+use mathlib.Core.Path.{_≡_, refl}
+use mathlib.Core.Bool.{true, false}
+use native.Mathlib.Omega.{arith}
+use lib.ListN.{length, getD}
+use lib.Dec.{eqb}
+use borrow.Author.Tests.{eq-eqb, ne-eqb}
+use Rattle.format.specs.Bytes.{allBelow, anyBelow, sameAt}
+use Rattle.format.proofs.Below.{any-zero, any-more, all-zero, all-more, all-fails}
+use Rattle.markup.proofs.Skipping.{first-none, first-here}
 use Rattle.markup.proofs.stretches.first_of.Statement.{statement}
 use Rattle.markup.proofs.stretches.first_of.Tie as tie
-use Rattle.markup.proofs.stretches.first_of.Reads as reads
-use Rattle.markup.proofs.stretches.first_of.Lts as lts
 
 abbrev Inv-loop : tie.InvT-loop
-Inv-loop s p count m i₀ at j₀ i j = ?
+Inv-loop s p count m i₀ at j₀ i j = (i ≡ i₀) × (j ≤ length m) × (allBelow j (λ k. eqb (getD s (at + k) 0) (getD m k 0)) ≡ true)
 
 abbrev μ-loop : tie.MeasureT-loop
-μ-loop s p count m i₀ at j₀ i j = ?
+μ-loop s p count m i₀ at j₀ i j = length m - j
 
 abbrev Inv-outer : tie.InvT-outer
-Inv-outer s p count m i₀ i = ?
+Inv-outer s p count m i₀ i = (i ≤ count) × (anyBelow i (λ k. sameAt s (p + k) m) ≡ false)
 
 abbrev μ-outer : tie.MeasureT-outer
-μ-outer s p count m i₀ i = ?
+μ-outer s p count m i₀ i = count - i
 
--- src/stretches.rt:105:5
-outer-holds : tie.Need-outer-holds Inv-loop μ-loop Inv-outer μ-outer
-outer-holds c = ?
-
--- src/stretches.rt:106:18
-add-at : tie.Need-add-at Inv-loop μ-loop Inv-outer μ-outer
-add-at c = ?
-
--- src/stretches.rt:108:9
-loop-holds : tie.Need-loop-holds Inv-loop μ-loop Inv-outer μ-outer
-loop-holds c = ?
-
--- src/stretches.rt:109:18
-add-if1 : tie.Need-add-if1 Inv-loop μ-loop Inv-outer μ-outer
-add-if1 c = ?
-
--- src/stretches.rt:109:16
-shared-slice-read-if1 : tie.Need-shared-slice-read-if1 Inv-loop μ-loop Inv-outer μ-outer
-shared-slice-read-if1 c = ?
-
--- src/stretches.rt:109:29
-shared-slice-read-if1-2 : tie.Need-shared-slice-read-if1-2 Inv-loop μ-loop Inv-outer μ-outer
-shared-slice-read-if1-2 c = ?
-
--- src/stretches.rt:110:17
-add-i : tie.Need-add-i Inv-loop μ-loop Inv-outer μ-outer
-add-i c = ?
-
--- src/stretches.rt:105:5
-outer-less : tie.Need-outer-less Inv-loop μ-loop Inv-outer μ-outer
-outer-less c = ?
-
--- src/stretches.rt:105:5
 outer-again : tie.Need-outer-again Inv-loop μ-loop Inv-outer μ-outer
-outer-again c = ?
+unfolding sameAt
+outer-again c =
+    let l = c .before .before .before .before in
+    let o = l .before .before in
+    let t = c .before .before .before .loop-test .taken in
+    (omega arith, rw (l .loop .inv .0) (any-more _ _ (o .outer .inv .1) (all-fails _ _ _ t (ne-eqb _ _ (c .if1 .taken)))))
 
--- src/stretches.rt:113:13
-add-j : tie.Need-add-j Inv-loop μ-loop Inv-outer μ-outer
-add-j c = ?
-
--- src/stretches.rt:108:9
-loop-less : tie.Need-loop-less Inv-loop μ-loop Inv-outer μ-outer
-loop-less c = ?
-
--- src/stretches.rt:108:9
 loop-again : tie.Need-loop-again Inv-loop μ-loop Inv-outer μ-outer
-loop-again c = ?
+loop-again c =
+    let l = c .before .before .before .before in
+    (l .loop .inv .0, omega arith, all-more _ _ (l .loop .inv .2) (eq-eqb _ _ (c .if1 .left)))
 
--- src/stretches.rt:100:1
 returns : tie.Need-returns Inv-loop μ-loop Inv-outer μ-outer
-returns c = ?
+returns c =
+    let o = c .before in
+    first-none _ _ _ _ _ (o .outer .inv .0) (o .outer .inv .1) (omega arith)
 
--- src/stretches.rt:100:1
 returns-2 : tie.Need-returns-2 Inv-loop μ-loop Inv-outer μ-outer
-returns-2 c = ?
+unfolding sameAt
+returns-2 c =
+    let l = c .before in
+    let o = l .before .before in
+    let e : l .loop .j ≡ length (now (o .before .args .m)) = omega arith in
+    rw (l .loop .inv .0) (first-here _ _ _ _ _ (omega arith) (o .outer .inv .1) (rw (← e) (l .loop .inv .2)))
 
 pub first-of-spec : {M : Type 1} → statement M
 first-of-spec =
@@ -79,17 +59,17 @@ first-of-spec =
     μ-loop
     Inv-outer
     μ-outer
-    outer-holds
-    add-at
-    loop-holds
-    add-if1
-    shared-slice-read-if1
-    shared-slice-read-if1-2
-    add-i
-    outer-less
+    (λ c. (omega arith, any-zero _))
+    (λ c. omega arith)
+    (λ c. (refl, omega arith, all-zero _))
+    (λ c. omega arith)
+    (λ c. omega arith)
+    (λ c. omega arith)
+    (λ c. omega arith)
+    (λ c. omega arith)
     outer-again
-    add-j
-    loop-less
+    (λ c. omega arith)
+    (λ c. omega arith)
     loop-again
     returns
     returns-2)
