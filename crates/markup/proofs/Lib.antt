@@ -6,3 +6,5 @@ pub mod Tagging
 pub mod Skipping
 pub mod Naming
 pub mod Marking
+pub mod Opening
+pub mod Walking

@@ -64,9 +64,9 @@ module _ (bs : List ℕ) (at end : ℕ) (inside : at ≤ end) (fits : end ≤ le
   room-for m r e h =
       ⊎-elim (λ (z : at + length m - end ≡ 0). omega arith)
       (λ (z : 0 < at + length m - end).
-          let f : begins m (stretch bs at end) ≡ false = begins-short m (stretch bs at end) (rw (stretch-length bs at end fits) (omega arith)) in
-          let y : _≡_ {A = ℕ} 0 1 = cc in
-          absurd (omega arith))
+      let f : begins m (stretch bs at end) ≡ false = begins-short m (stretch bs at end) (rw (stretch-length bs at end fits) (omega arith)) in
+      let y : _≡_ {A = ℕ} 0 1 = cc in
+      absurd (omega arith))
       (eq-zero-or-pos (at + length m - end))
 
   pub room-dashes : (r : Bool) → r ≡ begins (45 ∷ 45 ∷ []) (stretch bs at end) → r ≡ true → at + 2 ≤ end

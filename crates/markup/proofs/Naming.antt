@@ -46,7 +46,7 @@ module _ (bs : List ℕ) (at end stop : ℕ) (p : Passed nameByte bs at end stop
   unfolding tagAt tagBehind
   tag-named t h s = rw (p .before, ← e, not-false named h, p .rest) s
 
--- ---- an end tag, from behind `</` on
+  -- ---- an end tag, from behind `</` on
 
   pub end-unnamed : not named ≡ true → Stands bs at end (endTagAt (stretch bs at end)) Broken
   unfolding endTagAt

@@ -1,6 +1,6 @@
 // The items of the metadata, one at a time: what stands at a place, and where the next item begins.
-use crate::stretches;
 use crate::Token;
+use crate::stretches;
 ghost use mathlib.Core.Path.{_≡_};
 ghost use mathlib.Core.Bool.{_&&_};
 ghost use Prim.Native.Nat.{_+_, _-_, _<_, _≤_};

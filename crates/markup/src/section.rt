@@ -1,6 +1,6 @@
 // Whether the metadata declare a chunk container: the items nest, and an outermost METADATA has the container's section.
-use crate::items;
 use crate::Token;
+use crate::items;
 ghost use mathlib.Core.Path.{_≡_};
 ghost use mathlib.Core.Bool.{_||_};
 ghost use Prim.Native.Nat.{_+_, _<_, _≤_};

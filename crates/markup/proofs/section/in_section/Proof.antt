@@ -1,91 +1,44 @@
+-- `markup::section::in_section` meets its contract.
+use Prim.Native.Nat.{_<_}
 use borrow.Author.Needs.{needs}
+use native.Mathlib.Omega.{arith}
+use Rattle.format.specs.Names.{tagMetadata, tagSchema, tagFormat}
+use Rattle.markup.proofs.Opening.{lie-third, section-other, section-first, section-second, section-third}
 use Rattle.markup.proofs.section.in_section.Statement.{statement}
 use Rattle.markup.proofs.section.in_section.Tie as tie
-use Rattle.markup.proofs.section.in_section.Reads as reads
-use Rattle.markup.proofs.section.in_section.Lts as lts
-use Rattle.markup.proofs.section.is_named.Reads as is-named-reads
 
--- src/section.rt:43:9
 returns : tie.Need-returns
-returns c = ?
+returns c = search section-other
 
--- src/section.rt:45:21
-element-copy-out-is-named : tie.Need-element-copy-out-is-named
-element-copy-out-is-named c = search needs
-
--- src/section.rt:45:32
-element-copy-out-is-named-2 : tie.Need-element-copy-out-is-named-2
-element-copy-out-is-named-2 c = search needs
-
--- src/section.rt:45:44
-slice-aggregate-is-named : tie.Need-slice-aggregate-is-named
-slice-aggregate-is-named c = search needs
-
--- src/section.rt:45:9
-is-named-requires : tie.Need-is-named-requires
-is-named-requires c κs = ?
-
--- src/section.rt:46:9
 returns-2 : tie.Need-returns-2
-returns-2 c = ?
+unfolding tagFormat
+returns-2 c = search section-first
 
--- src/section.rt:48:21
-element-copy-out-is-named-3 : tie.Need-element-copy-out-is-named-3
-element-copy-out-is-named-3 c = search needs
-
--- src/section.rt:48:32
-element-copy-out-is-named-4 : tie.Need-element-copy-out-is-named-4
-element-copy-out-is-named-4 c = search needs
-
--- src/section.rt:48:44
-slice-aggregate-is-named-2 : tie.Need-slice-aggregate-is-named-2
-slice-aggregate-is-named-2 c = search needs
-
--- src/section.rt:48:9
-is-named-requires-2 : tie.Need-is-named-requires-2
-is-named-requires-2 c κs = ?
-
--- src/section.rt:49:9
 returns-3 : tie.Need-returns-3
-returns-3 c = ?
+unfolding tagFormat tagSchema
+returns-3 c = search section-second
 
--- src/section.rt:51:17
-element-copy-out-is-named-5 : tie.Need-element-copy-out-is-named-5
-element-copy-out-is-named-5 c = search needs
-
--- src/section.rt:51:28
-element-copy-out-is-named-6 : tie.Need-element-copy-out-is-named-6
-element-copy-out-is-named-6 c = search needs
-
--- src/section.rt:51:40
-slice-aggregate-is-named-3 : tie.Need-slice-aggregate-is-named-3
-slice-aggregate-is-named-3 c = search needs
-
--- src/section.rt:51:5
-is-named-requires-3 : tie.Need-is-named-requires-3
-is-named-requires-3 c κs = ?
-
--- src/section.rt:38:1
 returns-4 : tie.Need-returns-4
-returns-4 c = ?
+unfolding tagFormat tagSchema tagMetadata
+returns-4 c = search section-third
 
 pub in-section-spec : {M : Type 1} → statement M
 in-section-spec =
     tie.close
     (tie.spec
     returns
-    element-copy-out-is-named
-    element-copy-out-is-named-2
-    slice-aggregate-is-named
-    is-named-requires
+    (λ c. search needs)
+    (λ c. search needs)
+    (λ c. search needs)
+    (λ c κs. let k : 2 < 3 = omega arith in search (lie-third 2 k))
     returns-2
-    element-copy-out-is-named-3
-    element-copy-out-is-named-4
-    slice-aggregate-is-named-2
-    is-named-requires-2
+    (λ c. search needs)
+    (λ c. search needs)
+    (λ c. search needs)
+    (λ c κs. let k : 1 < 3 = omega arith in search (lie-third 1 k))
     returns-3
-    element-copy-out-is-named-5
-    element-copy-out-is-named-6
-    slice-aggregate-is-named-3
-    is-named-requires-3
+    (λ c. search needs)
+    (λ c. search needs)
+    (λ c. search needs)
+    (λ c κs. let k : 0 < 3 = omega arith in search (lie-third 0 k))
     returns-4)

@@ -1,175 +1,146 @@
+-- `markup::section::is_container` meets its contract.
+use Prim.Native.Nat.{_-_}
+use borrow.Author.Needs.{needs}
+use native.Mathlib.Omega.{arith}
+use Rattle.markup.proofs.Walking.{Walking, told, walking-start, broken, too-many, lie-start, walking-opened, none-open, other-name, walking-closed}
+use Rattle.markup.proofs.Walking.{walking-empty, walking-text, walking-skipped, still-open, all-closed}
 use Rattle.markup.proofs.section.is_container.Statement.{statement}
 use Rattle.markup.proofs.section.is_container.Tie as tie
-use Rattle.markup.proofs.section.is_container.Reads as reads
-use Rattle.markup.proofs.section.is_container.Lts as lts
-use Rattle.markup.proofs.items.item_at.Reads as item-at-reads
-use Rattle.markup.proofs.section.found_after.Reads as found-after-reads
-use Rattle.markup.proofs.section.same_names.Reads as same-names-reads
-use Rattle.markup.proofs.section.start_stage.Reads as start-stage-reads
-use Rattle.markup.proofs.section.text_stage.Reads as text-stage-reads
 
 abbrev Inv-loop : tie.InvT-loop
 Inv-loop s p n end places₀ lengths₀ depth₀ stage₀ found₀ at₀ places lengths depth stage found at =
-    ?
+    Walking s p n end places lengths depth stage found at
 
 abbrev μ-loop : tie.MeasureT-loop
-μ-loop s p n end places₀ lengths₀ depth₀ stage₀ found₀ at₀ places lengths depth stage found at = ?
+μ-loop s p n end places₀ lengths₀ depth₀ stage₀ found₀ at₀ places lengths depth stage found at = end - at
 
--- src/section.rt:93:15
-add-end : tie.Need-add-end Inv-loop μ-loop
-add-end c = ?
-
--- src/section.rt:100:5
 loop-holds : tie.Need-loop-holds Inv-loop μ-loop
-loop-holds c = ?
+loop-holds c = search walking-start
 
--- src/section.rt:101:13
-item-at-requires : tie.Need-item-at-requires Inv-loop μ-loop
-item-at-requires c κs = ?
-
--- src/section.rt:104:17
-enum-told : tie.Need-enum-told Inv-loop μ-loop
-enum-told c = ?
-
--- src/section.rt:104:17
 returns : tie.Need-returns Inv-loop μ-loop
-returns c = ?
+returns c =
+    let a = c .before .before in
+    broken _ _ _ _ _ _ _ _ _ _ (a .before .before .loop .inv) (a .before .loop-test .taken) (told (a .item-at .ensures) (search needs))
 
--- src/section.rt:106:28
-enum-known-token : tie.Need-enum-known-token Inv-loop μ-loop
-enum-known-token c = ?
+-- ---- a start tag
 
--- src/section.rt:108:21
 returns-2 : tie.Need-returns-2 Inv-loop μ-loop
-returns-2 c = ?
+returns-2 c =
+    let k = c .before .before in
+    let a = k .before .before in
+    too-many _ _ _ _ _ _ _ _ _ _ (a .before .before .loop .inv) (a .before .loop-test .taken) _ _ _ (told (a .item-at .ensures) (k .token .given .1)) (c .if1 .taken)
 
--- src/section.rt:110:17
-mul-places : tie.Need-mul-places Inv-loop μ-loop
-mul-places c = ?
+room : tie.Need-array-write-places Inv-loop μ-loop
+room c = let l = c .before .before .before .before .before .before in omega (arith, l .loop .inv .lie .few)
 
--- src/section.rt:110:17
-array-write-places : tie.Need-array-write-places Inv-loop μ-loop
-array-write-places c = ?
-
--- src/section.rt:111:17
-mul-lengths : tie.Need-mul-lengths Inv-loop μ-loop
-mul-lengths c = ?
-
--- src/section.rt:111:17
-array-write-lengths : tie.Need-array-write-lengths Inv-loop μ-loop
-array-write-lengths c = ?
-
--- src/section.rt:112:17
-add-depth : tie.Need-add-depth Inv-loop μ-loop
-add-depth c = ?
-
--- src/section.rt:113:17
 start-stage-requires : tie.Need-start-stage-requires Inv-loop μ-loop
-start-stage-requires c κs = ?
+start-stage-requires c κs =
+    let k = c .before .before .before .before in
+    let a = k .before .before in
+    lie-start _ _ _ _ _ _ _ _ _ _ (a .before .before .loop .inv) (a .before .loop-test .taken) _ _ _ (told (a .item-at .ensures) (k .token .given .1)) (c .before .before .if1 .left)
 
--- src/section.rt:100:5
 loop-less : tie.Need-loop-less Inv-loop μ-loop
-loop-less c = ?
+loop-less c =
+    let k = c .before .before .before .before .before in
+    let a = k .before .before in
+    let s = told (a .item-at .ensures) (k .token .given .1) in
+    omega (arith, s .ahead .1)
 
--- src/section.rt:100:5
 loop-again : tie.Need-loop-again Inv-loop μ-loop
-loop-again c = ?
+loop-again c =
+    let e = c .before .before .before in
+    let k = e .before .before in
+    let a = k .before .before in
+    walking-opened _ _ _ _ _ _ _ _ _ _ (a .before .before .loop .inv) (a .before .loop-test .taken) _ _ _ (told (a .item-at .ensures) (k .token .given .1)) _ (e .if1 .left)
+    (c .start-stage .ensures)
 
--- src/section.rt:116:28
-enum-known-token-2 : tie.Need-enum-known-token-2 Inv-loop μ-loop
-enum-known-token-2 c = ?
+-- ---- an end tag
 
--- src/section.rt:118:21
 returns-3 : tie.Need-returns-3 Inv-loop μ-loop
-returns-3 c = ?
+returns-3 c =
+    let k = c .before .before in
+    let a = k .before .before in
+    none-open _ _ _ _ _ _ _ _ _ _ (a .before .before .loop .inv) (a .before .loop-test .taken) _ _ _ (told (a .item-at .ensures) (k .token2 .given .1)) (c .if2 .taken)
 
--- src/section.rt:120:17
-sub-depth : tie.Need-sub-depth Inv-loop μ-loop
-sub-depth c = ?
-
--- src/section.rt:121:49
-mul-same-names : tie.Need-mul-same-names Inv-loop μ-loop
-mul-same-names c = ?
-
--- src/section.rt:121:49
-array-read-same-names : tie.Need-array-read-same-names Inv-loop μ-loop
-array-read-same-names c = ?
-
--- src/section.rt:121:64
-mul-same-names-2 : tie.Need-mul-same-names-2 Inv-loop μ-loop
-mul-same-names-2 c = ?
-
--- src/section.rt:121:64
-array-read-same-names-2 : tie.Need-array-read-same-names-2 Inv-loop μ-loop
-array-read-same-names-2 c = ?
-
--- src/section.rt:121:21
 same-names-requires : tie.Need-same-names-requires Inv-loop μ-loop
-same-names-requires c κs = ?
+same-names-requires c κs =
+    let k = c .before .before in
+    let a = k .before .before in
+    let w = a .before .before .loop .inv in
+    let s = told (a .item-at .ensures) (k .token2 .given .1) in
+    (omega (arith, s .ahead .0, w .fits), w .lie .each _ (omega arith))
 
--- src/section.rt:122:21
 returns-4 : tie.Need-returns-4 Inv-loop μ-loop
-returns-4 c = ?
+returns-4 c =
+    let e = c .before .before in
+    let k = e .before .before in
+    let a = k .before .before in
+    other-name _ _ _ _ _ _ _ _ _ _ (a .before .before .loop .inv) (a .before .loop-test .taken) _ _ _ (told (a .item-at .ensures) (k .token2 .given .1)) _ (e .if2 .left)
+    (c .before .same-names .ensures) (c .if3 .taken)
 
--- src/section.rt:124:17
-found-after-requires : tie.Need-found-after-requires Inv-loop μ-loop
-found-after-requires c κs = ?
-
--- src/section.rt:100:5
 loop-less-2 : tie.Need-loop-less-2 Inv-loop μ-loop
-loop-less-2 c = ?
+loop-less-2 c =
+    let k = c .before .before .before .before .before in
+    let a = k .before .before in
+    let s = told (a .item-at .ensures) (k .token2 .given .1) in
+    omega (arith, s .ahead .1)
 
--- src/section.rt:100:5
 loop-again-2 : tie.Need-loop-again-2 Inv-loop μ-loop
-loop-again-2 c = ?
+loop-again-2 c =
+    let e = c .before .before .before in
+    let k = e .before .before in
+    let a = k .before .before in
+    walking-closed _ _ _ _ _ _ _ _ _ _ (a .before .before .loop .inv) (a .before .loop-test .taken) _ _ _ (told (a .item-at .ensures) (k .token2 .given .1)) _ (e .if2 .left)
+    (c .before .before .same-names .ensures) _ (c .before .if3 .left) (c .found-after .ensures)
 
--- src/section.rt:128:28
-enum-known-token-3 : tie.Need-enum-known-token-3 Inv-loop μ-loop
-enum-known-token-3 c = ?
+-- ---- what opens and closes nothing
 
--- src/section.rt:100:5
 loop-less-3 : tie.Need-loop-less-3 Inv-loop μ-loop
-loop-less-3 c = ?
+loop-less-3 c =
+    let a = c .before .before .before in
+    let s = told (a .item-at .ensures) (c .before .token3 .given .1) in
+    omega (arith, s .ahead .0)
 
--- src/section.rt:100:5
 loop-again-3 : tie.Need-loop-again-3 Inv-loop μ-loop
-loop-again-3 c = ?
+loop-again-3 c =
+    let a = c .before .before .before in
+    walking-empty _ _ _ _ _ _ _ _ _ _ (a .before .before .loop .inv) (a .before .loop-test .taken) _ (told (a .item-at .ensures) (c .before .token3 .given .1))
 
--- src/section.rt:132:27
-enum-known-token-4 : tie.Need-enum-known-token-4 Inv-loop μ-loop
-enum-known-token-4 c = ?
-
--- src/section.rt:133:17
 text-stage-requires : tie.Need-text-stage-requires Inv-loop μ-loop
-text-stage-requires c κs = ?
+text-stage-requires c κs =
+    let a = c .before .before .before in
+    let s = told (a .item-at .ensures) (c .before .token4 .given .1) in
+    (s .ahead .0, omega (arith, s .ahead .2, a .before .before .loop .inv .fits))
 
--- src/section.rt:100:5
 loop-less-4 : tie.Need-loop-less-4 Inv-loop μ-loop
-loop-less-4 c = ?
+loop-less-4 c =
+    let a = c .before .before .before .before in
+    let s = told (a .item-at .ensures) (c .before .before .token4 .given .1) in
+    omega (arith, s .ahead .1)
 
--- src/section.rt:100:5
 loop-again-4 : tie.Need-loop-again-4 Inv-loop μ-loop
-loop-again-4 c = ?
+loop-again-4 c =
+    let a = c .before .before .before .before in
+    walking-text _ _ _ _ _ _ _ _ _ _ (a .before .before .loop .inv) (a .before .loop-test .taken) _ _ _ (told (a .item-at .ensures) (c .before .before .token4 .given .1)) (c .text-stage .ensures)
 
--- src/section.rt:136:30
-enum-known-token-5 : tie.Need-enum-known-token-5 Inv-loop μ-loop
-enum-known-token-5 c = ?
-
--- src/section.rt:100:5
 loop-less-5 : tie.Need-loop-less-5 Inv-loop μ-loop
-loop-less-5 c = ?
+loop-less-5 c =
+    let a = c .before .before .before in
+    let s = told (a .item-at .ensures) (c .before .token5 .given .1) in
+    omega (arith, s .ahead .0)
 
--- src/section.rt:100:5
 loop-again-5 : tie.Need-loop-again-5 Inv-loop μ-loop
-loop-again-5 c = ?
+loop-again-5 c =
+    let a = c .before .before .before in
+    walking-skipped _ _ _ _ _ _ _ _ _ _ (a .before .before .loop .inv) (a .before .loop-test .taken) _ (told (a .item-at .ensures) (c .before .token5 .given .1))
 
--- src/section.rt:143:9
+-- ---- the end
+
 returns-5 : tie.Need-returns-5 Inv-loop μ-loop
-returns-5 c = ?
+returns-5 c = search still-open
 
--- src/section.rt:89:1
 returns-6 : tie.Need-returns-6 Inv-loop μ-loop
-returns-6 c = ?
+returns-6 c = search all-closed
 
 pub is-container-spec : {M : Type 1} → statement M
 is-container-spec =
@@ -177,41 +148,41 @@ is-container-spec =
     (tie.spec
     Inv-loop
     μ-loop
-    add-end
+    (λ c. search needs)
     loop-holds
-    item-at-requires
-    enum-told
+    (λ c κs. search needs)
+    (λ c. search needs)
     returns
-    enum-known-token
+    (λ c. search needs)
     returns-2
-    mul-places
-    array-write-places
-    mul-lengths
-    array-write-lengths
-    add-depth
+    (λ c. let l = c .before .before .before .before .before .before in omega (arith, l .loop .inv .lie .few))
+    room
+    (λ c. let l = c .before .before .before .before .before .before in omega (arith, l .loop .inv .lie .few))
+    room
+    (λ c. let l = c .before .before .before .before .before .before in omega (arith, l .loop .inv .lie .few))
     start-stage-requires
     loop-less
     loop-again
-    enum-known-token-2
+    (λ c. search needs)
     returns-3
-    sub-depth
-    mul-same-names
-    array-read-same-names
-    mul-same-names-2
-    array-read-same-names-2
+    (λ c. omega arith)
+    (λ c. let l = c .before .before .before .before .before .before in omega (arith, l .loop .inv .lie .few))
+    (λ c. let l = c .before .before .before .before .before .before in omega (arith, l .loop .inv .lie .few))
+    (λ c. let l = c .before .before .before .before .before .before in omega (arith, l .loop .inv .lie .few))
+    (λ c. let l = c .before .before .before .before .before .before in omega (arith, l .loop .inv .lie .few))
     same-names-requires
     returns-4
-    found-after-requires
+    (λ c κs. search needs)
     loop-less-2
     loop-again-2
-    enum-known-token-3
+    (λ c. search needs)
     loop-less-3
     loop-again-3
-    enum-known-token-4
+    (λ c. search needs)
     text-stage-requires
     loop-less-4
     loop-again-4
-    enum-known-token-5
+    (λ c. search needs)
     loop-less-5
     loop-again-5
     returns-5
