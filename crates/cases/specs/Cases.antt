@@ -3,16 +3,20 @@ use Prim.Native.Nat.{ℕ, zero, suc, _+_, _%_, _/_}
 use mathlib.Core.Path.{_≡_, refl}
 use mathlib.Core.List.{List, [], _∷_, _++_}
 use mathlib.Core.Bool.{Bool, true, false}
+use mathlib.Core.Option.{Option·elim}
 use lib.ListN.{length, replicate, take}
 use Rattle.format.specs.Scan.{scanOf}
-use Rattle.format.specs.Bytes.{anyOf, anyBelow, allBelow, leastBelow, u32At, u64At, biased, sameAt, sameRange}
-use Rattle.format.specs.Names.{nameFile, nameDirectory, nameSubBlock, nameMetadata, nameAttachment, nameAttachmentDirectory, nameDeleted, markTile, containerMarker, maskGuid}
+use Rattle.format.specs.Bytes.{anyOf, anyBelow, allBelow, leastBelow, u32At, u64At, biased, sameAt, sameRange, partOf}
+use Rattle.format.specs.Names.{nameFile, nameDirectory, nameSubBlock, nameMetadata, nameAttachment, nameAttachmentDirectory, nameDeleted, markTile, tagMetadata, tagSchema, tagFormat, textContainer, maskGuid}
 use Rattle.format.specs.Checks.{rowsBelow}
 use Rattle.format.specs.Segments.{allocatedSize, usedSize, room, nextSegment, lengthBad, nameBad, allocatedBad, usedBad, endBad, sizesBad, roleBad, segmentRows, walkRows, walkedFrom, walked, segmentsRows, member, walkedAs}
 use Rattle.format.specs.File.{major, filePart, directoryPosition, metadataPosition, updatePending, attachmentDirectoryPosition, namesNone, namesNoneBut0, fileRows}
 use Rattle.format.specs.Entry.{pixelType, filePosition, entryPart, compression, dimensionCount, letter, start, size, storedField, stored, nextEntry, headBad, letterBad, tooFar, isPlane, sizeBad, dimensionBad, hasLetter, repeats, closesPlane, dimensionsBad, letterIndex, letterPlace, pixelBytes}
 use Rattle.format.specs.SubBlock.{metadataSize, attachmentSize, dataSize, fixedPart, copyBad, subBlockBad, pixelsSize, contentsBad, metadataPlace, pixelsPlace, attachmentPlace}
-use Rattle.format.specs.Masks.{isContainer, hasChunks, chunkSize, nextChunk, chunkBad, isMask, maskBad, maskRefused, maskWidth, maskHeight, maskStride, representation, chunkRows, chunksRows, maskByte, maskValid}
+use Rattle.format.specs.Markup.{white, nameByte, textByte, quote, beginsName, opener, closer, front, behind, begins, behindFirst, quoteAfter, behindTag}
+use Rattle.format.specs.Markup.{tagAt, closed, endTagAt, skipAt, markAt, itemAt, orNone, oneMore, readFrom, readsAs}
+use Rattle.format.specs.Container.{sameBytes, inSection, startStage, textStage, endsWell, declares, isContainer}
+use Rattle.format.specs.Masks.{hasChunks, chunkSize, nextChunk, chunkBad, isMask, maskBad, maskRefused, maskWidth, maskHeight, maskStride, representation, chunkRows, chunksRows, maskByte, maskValid}
 use Rattle.format.specs.Directory.{entryCount, roomEnd, tileCount, entryPlace, directoryBad, headRows, tileRows, subBlockRows, attachmentRows, entryRows, directoryRows}
 use Rattle.format.specs.Attachments.{metadataRows, attachmentsRows}
 use Rattle.format.specs.Rules.{checks, verdict}
@@ -61,12 +65,20 @@ dimension1 x = little 4 x ++ little 4 0 ++ little 4 1 ++ little 4 0 ++ little 4 
 unfoldable pub entry1 : List ℕ
 entry1 = markTile ++ little 4 0 ++ little 8 384 ++ little 4 0 ++ little 4 0 ++ replicate 6 0 ++ little 4 2 ++ dimension1 88 ++ dimension1 89
 
--- 736 bytes: one tile of one pixel, its attachment of 19 bytes marked as a container
+-- an element with these bytes in it: its start tag, them, and its end tag
+unfoldable pub element : List ℕ → List ℕ → List ℕ
+element name inner = 60 ∷ name ++ (62 ∷ inner ++ (60 ∷ 47 ∷ name ++ (62 ∷ [])))
+
+-- 97 bytes: metadata that are the container's section alone
+unfoldable pub containerSection : List ℕ
+containerSection = element tagMetadata (element tagSchema (element tagFormat textContainer))
+
+-- 800 bytes: one tile of one pixel, its attachment of 19 bytes marked as a container
 unfoldable pub file19 : List ℕ
 file19 =
     fileSegment ++
     (segment nameDirectory 224 (little 4 1 ++ replicate 124 0 ++ entry1) ++
-    segment nameSubBlock 320 (little 4 39 ++ little 4 19 ++ little 8 1 ++ entry1 ++ replicate 168 0 ++ containerMarker))
+    segment nameSubBlock 384 (little 4 97 ++ little 4 19 ++ little 8 1 ++ entry1 ++ replicate 168 0 ++ containerSection))
 
 -- a mask chunk of one line: width, height 1, that stride, and the line
 unfoldable pub mask1 : ℕ → ℕ → List ℕ → List ℕ
@@ -102,9 +114,9 @@ unfoldable pub fileMasked : List ℕ → List ℕ
 fileMasked mask =
     fileSegment ++
     (segment nameDirectory 224 (little 4 1 ++ replicate 124 0 ++ masked5) ++
-    segment nameSubBlock 352
-    (take 256 (little 4 39 ++ little 4 (length mask) ++ little 8 5 ++ masked5 ++ replicate 256 0) ++
-    (containerMarker ++ ((10 ∷ 11 ∷ 12 ∷ 13 ∷ 14 ∷ []) ++ mask))))
+    segment nameSubBlock 416
+    (take 256 (little 4 97 ++ little 4 (length mask) ++ little 8 5 ++ masked5 ++ replicate 256 0) ++
+    (containerSection ++ ((10 ∷ 11 ∷ 12 ∷ 13 ∷ 14 ∷ []) ++ mask))))
 
 -- two tiles of one pixel at (0, 0), 7 and then 9, the sub-blocks at 512 and 832: of these dimensions besides X and Y
 unfoldable pub fileTwo : ℕ → List ℕ → ℕ → List ℕ → List ℕ
@@ -198,9 +210,9 @@ cases =
     -- P11 window left 2,147,483,647, width 1: refused 20
     case (ask file288 (pos 2147483647) 1) (verdict-is (Refused 20 0)) ∷
     -- P12 attachment of 19 bytes marked as container: 17
-    case (judge file19) (verdict-is (Refused 17 712)) ∷
+    case (judge file19) (verdict-is (Refused 17 770)) ∷
     []
 
 pub all-right : AllRight cases
-unfolding little segment fileSegment file288 dimension1 entry1 file19 mask1 dimensionOf entryOf blockOf wide8 fileWide masked5 fileMasked fileTwo rowAt sum tab bitIn bit pack paint mark clear turn run Turns.start below insert bottomFirst askedStart tileStart free startsThere selects rankOf rectangle covers meets entryTile fileTile tilesBelow windowBad pixelBad lentBad askRows typeBad agreeRows callVerdict selected targetAfter mapAfter isPyramid maskOf maskFrom maskShape anyOf anyBelow allBelow leastBelow u32At u64At biased sameAt sameRange nameFile nameDirectory nameSubBlock nameMetadata nameAttachment nameAttachmentDirectory nameDeleted markTile containerMarker maskGuid rowsBelow allocatedSize usedSize room nextSegment lengthBad nameBad allocatedBad usedBad endBad sizesBad roleBad segmentRows walkRows walkedFrom walked segmentsRows member walkedAs major filePart directoryPosition metadataPosition updatePending attachmentDirectoryPosition namesNone namesNoneBut0 fileRows pixelType filePosition entryPart compression dimensionCount letter start size storedField stored nextEntry headBad letterBad tooFar isPlane sizeBad dimensionBad hasLetter repeats closesPlane dimensionsBad letterIndex letterPlace pixelBytes metadataSize attachmentSize dataSize fixedPart copyBad subBlockBad pixelsSize contentsBad metadataPlace pixelsPlace attachmentPlace isContainer hasChunks chunkSize nextChunk chunkBad isMask maskBad maskRefused maskWidth maskHeight maskStride representation chunkRows chunksRows maskByte maskValid entryCount roomEnd tileCount entryPlace directoryBad headRows tileRows subBlockRows attachmentRows entryRows directoryRows metadataRows attachmentsRows checks verdict
+unfolding little segment fileSegment file288 dimension1 entry1 element containerSection file19 mask1 dimensionOf entryOf blockOf wide8 fileWide masked5 fileMasked fileTwo rowAt sum tab bitIn bit pack paint mark clear turn run Turns.start below insert bottomFirst askedStart tileStart free startsThere selects rankOf rectangle covers meets entryTile fileTile tilesBelow windowBad pixelBad lentBad askRows typeBad agreeRows callVerdict selected targetAfter mapAfter isPyramid maskOf maskFrom maskShape anyOf anyBelow allBelow leastBelow u32At u64At biased sameAt sameRange nameFile nameDirectory nameSubBlock nameMetadata nameAttachment nameAttachmentDirectory nameDeleted markTile tagMetadata tagSchema tagFormat textContainer maskGuid rowsBelow allocatedSize usedSize room nextSegment lengthBad nameBad allocatedBad usedBad endBad sizesBad roleBad segmentRows walkRows walkedFrom walked segmentsRows member walkedAs major filePart directoryPosition metadataPosition updatePending attachmentDirectoryPosition namesNone namesNoneBut0 fileRows pixelType filePosition entryPart compression dimensionCount letter start size storedField stored nextEntry headBad letterBad tooFar isPlane sizeBad dimensionBad hasLetter repeats closesPlane dimensionsBad letterIndex letterPlace pixelBytes metadataSize attachmentSize dataSize fixedPart copyBad subBlockBad pixelsSize contentsBad metadataPlace pixelsPlace attachmentPlace white nameByte textByte quote beginsName opener closer front behind begins behindFirst quoteAfter behindTag tagAt closed endTagAt skipAt markAt itemAt orNone oneMore readFrom readsAs sameBytes inSection startStage textStage endsWell declares partOf Option·elim isContainer hasChunks chunkSize nextChunk chunkBad isMask maskBad maskRefused maskWidth maskHeight maskStride representation chunkRows chunksRows maskByte maskValid entryCount roomEnd tileCount entryPlace directoryBad headRows tileRows subBlockRows attachmentRows entryRows directoryRows metadataRows attachmentsRows checks verdict
 all-right = (refl, (refl, (refl, (refl, (refl, (refl, (refl, (refl, (refl, (refl, (refl, (refl, (refl, (refl, (refl, (refl, (refl, (refl, (refl, (refl, (refl, tt)))))))))))))))))))))

@@ -7,8 +7,8 @@ use mathlib.Core.Option.{some}
 use lib.Dec.{eqb}
 use borrow.Author.Tests.{eq-eqb, eqb-true, not-true}
 use Rattle.format.specs.Bytes.{anyOf}
-use Rattle.format.specs.Markup.{quote, plainByte, every}
-use Rattle.format.specs.Markup.{Attribute, plain, quoted, spelled, Quoting, slashed}
+use Rattle.format.specs.Markup.{quote, bareByte, every}
+use Rattle.format.specs.Markup.{Inside, bare, quoted, spelled, Quoting, slashed}
 use Rattle.format.specs.Markup.{quoteAfter, behindTag}
 use Rattle.format.proofs.Below.{by-bool, and-both, none as no-test}
 use Rattle.format.proofs.Reading.{IfFound, if-so}
@@ -41,11 +41,11 @@ quoted-passed q last (b ∷ inner) ys h k =
     rw (not-of quote q 0 h refl, not-true (eqb b q) (both .0)) (quoted-passed q b inner ys h (both .1))
 
 -- attributes up to the tag's `>`
-pub attributes-passed : (last : ℕ) (list : List Attribute) (rest : List ℕ) → Quoting list
+pub attributes-passed : (last : ℕ) (list : List Inside) (rest : List ℕ) → Quoting list
     → behindTag 0 last (spelled list ++ (62 ∷ rest)) ≡ some (slashed (last ∷ spelled list), rest)
-unfolding behindTag quoteAfter plainByte quote anyOf
+unfolding behindTag quoteAfter bareByte quote anyOf
 attributes-passed last [] rest h = unfold slashed in refl
-attributes-passed last (plain b ∷ list) rest h =
+attributes-passed last (bare b ∷ list) rest h =
     let out = no-test (quote b ∷ eqb b 60 ∷ eqb b 62 ∷ []) (not-true _ (h .0)) in
     rw (out 2, out 1, out 0, slashed-behind (last ∷ []) b (spelled list)) (attributes-passed b list rest (h .1))
 attributes-passed last (quoted q inner ∷ list) rest h =
@@ -57,10 +57,10 @@ attributes-passed last (quoted q inner ∷ list) rest h =
 
 -- what stands from behind a tag's name on, or from behind that last byte on: attributes, `>` and the rest
 pub record Attributed (last : ℕ) (bs : List ℕ) (found : Bool × List ℕ) : Type 0 where
-  pub attributes : List Attribute
-  pub quoting : Quoting attributes
-  pub kind : slashed (last ∷ spelled attributes) ≡ found .0
-  pub written : bs ≡ spelled attributes ++ (62 ∷ found .1)
+  pub inside : List Inside
+  pub quoting : Quoting inside
+  pub kind : slashed (last ∷ spelled inside) ≡ found .0
+  pub written : bs ≡ spelled inside ++ (62 ∷ found .1)
 
 -- the same inside a quoted stretch
 record Enclosed (q : ℕ) (bs : List ℕ) (found : Bool × List ℕ) : Type 0 where
@@ -71,12 +71,12 @@ record Enclosed (q : ℕ) (bs : List ℕ) (found : Bool × List ℕ) : Type 0 wh
   rest : Attributed q behind-quote found
 
 -- a byte outside quotes more
-plain-more : (last b : ℕ) (bs : List ℕ) (found : Bool × List ℕ) → plainByte b ≡ true → Attributed b bs found → Attributed last (b ∷ bs) found
+plain-more : (last b : ℕ) (bs : List ℕ) (found : Bool × List ℕ) → bareByte b ≡ true → Attributed b bs found → Attributed last (b ∷ bs) found
 plain-more last b bs found h a =
     record {
-      attributes = plain b ∷ a .attributes;
+      inside = bare b ∷ a .inside;
       quoting = (h, a .quoting);
-      kind = slashed-behind (last ∷ []) b (spelled (a .attributes)) ∙ a .kind;
+      kind = slashed-behind (last ∷ []) b (spelled (a .inside)) ∙ a .kind;
       written = ap (λ r. b ∷ r) (a .written);
     }
 
@@ -85,11 +85,11 @@ quoted-more : (last q : ℕ) (bs : List ℕ) (found : Bool × List ℕ) → quot
 quoted-more last q bs found h a =
     let r = a .rest in
     record {
-      attributes = quoted q (a .inner) ∷ r .attributes;
+      inside = quoted q (a .inner) ∷ r .inside;
       quoting = (h, a .whole, r .quoting);
-      kind = slashed-behind (last ∷ q ∷ a .inner) q (spelled (r .attributes)) ∙ r .kind;
+      kind = slashed-behind (last ∷ q ∷ a .inner) q (spelled (r .inside)) ∙ r .kind;
       written = ap (λ x. q ∷ x) (a .written ∙ ap (λ x. a .inner ++ (q ∷ x)) (r .written)
-          ∙ sym (append-assoc (a .inner) (q ∷ spelled (r .attributes)) (62 ∷ found .1)));
+          ∙ sym (append-assoc (a .inner) (q ∷ spelled (r .inside)) (62 ∷ found .1)));
     }
 
 -- the second quote
@@ -111,8 +111,8 @@ enclosed-more q b bs found e a =
     }
 
 -- what is no quote, `<` or `>` stands outside quotes
-plain-is : (b : ℕ) → eqb b 62 ≡ false → eqb b 60 ≡ false → quote b ≡ false → plainByte b ≡ true
-unfolding plainByte anyOf
+plain-is : (b : ℕ) → eqb b 62 ≡ false → eqb b 60 ≡ false → quote b ≡ false → bareByte b ≡ true
+unfolding bareByte anyOf
 plain-is b e f g = rw (e, f, g)
 
 -- 0 is no quote
@@ -127,7 +127,7 @@ mutual
   pub attributed : (bs : List ℕ) (last : ℕ) → IfFound (Attributed last bs) (behindTag 0 last bs)
   attributed [] last = tt
   attributed (b ∷ bs) last =
-      by-bool (eqb b 62) (λ e. rw e (record { attributes = []; quoting = tt; kind = refl; written = ap (λ c. c ∷ bs) (eqb-true b 62 e) }))
+      by-bool (eqb b 62) (λ e. rw e (record { inside = []; quoting = tt; kind = refl; written = ap (λ c. c ∷ bs) (eqb-true b 62 e) }))
       (λ e. rw e (by-bool (eqb b 60) (λ f. rw f tt)
       (λ f. rw f (by-bool (quote b)
       (λ g. rw g (if-so (Enclosed b bs) (Attributed last (b ∷ bs)) (behindTag b b bs) (λ t. quoted-more last b bs t g) (enclosed bs b b g)))

@@ -1,7 +1,7 @@
 -- The rows of the three segments that the file segment names, and of their entries, accept exactly where those are well formed. Assumes nothing.
 use Prim.Native.Nat.{ℕ, _<_}
 use mathlib.Core.Path.{_≡_, refl}
-use mathlib.Core.Logic.{_⊎_, inl, inr, ⊎-elim}
+use mathlib.Core.Logic.{_⊎_, _↔_, inl, inr, ⊎-elim}
 use mathlib.Core.List.{List, [], _∷_}
 use mathlib.Core.Bool.{true, false, cond}
 use lib.Dec.{eqb}
@@ -13,29 +13,36 @@ use Rattle.format.specs.Segments.{walked}
 use Rattle.format.specs.File.{directoryPosition, metadataPosition, attachmentDirectoryPosition}
 use Rattle.format.specs.File.{namesNone, namesNoneBut0}
 use Rattle.format.specs.Entry.{filePosition}
-use Rattle.format.specs.SubBlock.{attachmentSize, attachmentPlace}
+use Rattle.format.specs.SubBlock.{metadataSize, attachmentSize, metadataPlace, attachmentPlace}
 use Rattle.format.specs.Masks.{hasChunks}
 use Rattle.format.specs.Directory.{tileCount, entryPlace, directoryBad, headRows, tileRows, subBlockRows, attachmentRows, entryRows, directoryRows}
 use Rattle.format.specs.Attachments.{metadataBad, metadataRows, attachmentDirectoryBad, attachmentEntryCount, attachmentEntry}
 use Rattle.format.specs.Attachments.{attachmentEntryRows, attachmentDirectoryRows, attachmentsRows}
-use Rattle.format.specs.WellFormed.{ChunksFill, Names, Entry, AttachmentEntry, AttachmentDirectory}
+use Rattle.format.specs.WellFormed.{DeclaresChunks, ChunksFill, Names, Entry, AttachmentEntry, AttachmentDirectory}
 use Rattle.format.specs.declared.Verdict.the-variants.{Accepted}
 use Rattle.format.proofs.Below.{by-bool}
 use Rattle.format.proofs.Firsts.{first-passed, passed, passed-rest, rows-each, rows-all}
 use Rattle.format.proofs.SegmentLaws.{names-ok, names-accepted}
+use Rattle.format.proofs.Declaring.{container-iff}
 use Rattle.format.proofs.ChunkWalk.{chunks-ok, chunks-accepted}
 
 -- ---- a sub-block's attachment
 
 module _ (ds : List ℕ) (e : ℕ) (bs : List ℕ) (q : ℕ) where
-  container-ok : first (attachmentRows ds e bs q) ≡ Accepted → hasChunks ds e bs q ≡ true → ChunksFill ds e bs q
-  unfolding attachmentRows
-  container-ok a c = chunks-ok bs (attachmentSize bs q) (attachmentPlace ds e bs q) (rw c at a)
+  chunks-declared : DeclaresChunks ds e bs q ↔ (hasChunks ds e bs q ≡ true)
+  unfolding hasChunks
+  chunks-declared = container-iff bs (metadataPlace ds e q) (metadataSize bs q)
 
-  container-accepted : (hasChunks ds e bs q ≡ true → ChunksFill ds e bs q) → first (attachmentRows ds e bs q) ≡ Accepted
+  container-ok : first (attachmentRows ds e bs q) ≡ Accepted → DeclaresChunks ds e bs q → ChunksFill ds e bs q
+  unfolding attachmentRows
+  container-ok a d = let c = chunks-declared .0 d in chunks-ok bs (attachmentSize bs q) (attachmentPlace ds e bs q) (rw c at a)
+
+  container-accepted : (DeclaresChunks ds e bs q → ChunksFill ds e bs q) → first (attachmentRows ds e bs q) ≡ Accepted
   unfolding attachmentRows
   container-accepted h =
-      by-bool (hasChunks ds e bs q) (λ c. rw c (chunks-accepted bs (attachmentSize bs q) (attachmentPlace ds e bs q) (h c))) (λ c. rw c)
+      by-bool (hasChunks ds e bs q)
+      (λ c. rw c (chunks-accepted bs (attachmentSize bs q) (attachmentPlace ds e bs q) (h (chunks-declared .1 c))))
+      (λ c. rw c)
 
 -- ---- an entry DV
 

@@ -9,9 +9,9 @@ use lib.ListN.{length, drop}
 use lib.Dec.{eqb}
 use borrow.Author.Tests.{eqb-true, not-true, not-false}
 use Rattle.format.specs.Bytes.{anyOf}
-use Rattle.format.specs.Markup.{Item, start, close, empty, text, skipped, white, nameByte, textByte, every, Begins, isName, Name}
-use Rattle.format.specs.Markup.{Text, Skip, comment, instruction, section, opener, closer, Front, Reads, Found}
-use Rattle.format.specs.Markup.{front, behind, begins, behindFirst, tagAt, endTagAt, skipAt, markAt, itemAt, after, readsAs}
+use Rattle.format.specs.Markup.{Item, start, close, empty, text, skipped, white, nameByte, textByte, every, FirstByte, beginsName, Name}
+use Rattle.format.specs.Markup.{Text, Skip, comment, instruction, charData, opener, closer, Leading, Reads, Found}
+use Rattle.format.specs.Markup.{front, behind, begins, behindFirst, tagAt, endTagAt, skipAt, markAt, itemAt, oneMore, readsAs}
 use Rattle.format.proofs.Below.{by-bool, and-both}
 use Rattle.format.proofs.Reading.{IfFound, if-found, reads-nothing, reads-step}
 use Rattle.format.proofs.Stretches.{not-of, front-behind, every-front, behind-begins, front-stretch, behind-stretch}
@@ -33,7 +33,7 @@ closer-behind : (k : Skip) (body rest : List ℕ) → NoneBefore (closer k) body
 unfolding closer
 closer-behind comment body rest = first-behind 45 (45 ∷ 62 ∷ []) body rest
 closer-behind instruction body rest = first-behind 63 (62 ∷ []) body rest
-closer-behind section body rest = first-behind 93 (93 ∷ 62 ∷ []) body rest
+closer-behind charData body rest = first-behind 93 (93 ∷ 62 ∷ []) body rest
 
 -- a skipped part is found
 skip-found : (k : Skip) (body rest : List ℕ) → NoneBefore (closer k) body → skipAt k (opener k ++ (body ++ (closer k ++ rest))) ≡ some (skipped, rest)
@@ -47,7 +47,7 @@ at-skip : (k : Skip) (ys : List ℕ) → itemAt (opener k ++ ys) ≡ skipAt k (o
 unfolding itemAt markAt begins opener
 at-skip comment ys = refl
 at-skip instruction ys = refl
-at-skip section ys = refl
+at-skip charData ys = refl
 
 -- an end tag
 at-end : (ys : List ℕ) → itemAt (60 ∷ 47 ∷ ys) ≡ endTagAt ys
@@ -55,8 +55,8 @@ unfolding itemAt markAt begins opener
 at-end ys = refl
 
 -- a start tag or an empty-element tag
-at-tag : (name ys : List ℕ) → Name name → Begins (λ b. not (eqb b 63)) name → itemAt (60 ∷ name ++ ys) ≡ tagAt (name ++ ys)
-unfolding itemAt markAt begins opener isName every nameByte white anyOf
+at-tag : (name ys : List ℕ) → Name name → FirstByte (λ b. not (eqb b 63)) name → itemAt (60 ∷ name ++ ys) ≡ tagAt (name ++ ys)
+unfolding itemAt markAt begins opener beginsName every nameByte white anyOf
 at-tag [] ys n h = absurd (true≢false (sym (n .named)))
 at-tag (b ∷ name) ys n h =
     rw (not-true (eqb b 33) (n .named), not-true (eqb b 63) h, not-of nameByte b 47 (and-both (nameByte b) (every nameByte name) (n .whole) .0) refl)
@@ -74,7 +74,7 @@ at-text b bs h = rw (not-true (eqb b 60) h)
 -- ---- an item that is found
 
 -- `<?` does not begin
-no-instruction : (bs : List ℕ) → begins (opener instruction) (60 ∷ bs) ≡ false → Begins (λ b. not (eqb b 63)) bs
+no-instruction : (bs : List ℕ) → begins (opener instruction) (60 ∷ bs) ≡ false → FirstByte (λ b. not (eqb b 63)) bs
 unfolding begins opener
 no-instruction [] e = tt
 no-instruction (b ∷ bs) e = rw (sym (and-true (eqb b 63)) ∙ e)
@@ -84,7 +84,7 @@ mark-right : (bs : List ℕ) → IfFound (Right (60 ∷ bs)) (markAt (60 ∷ bs)
 unfolding markAt
 mark-right bs =
     by-bool (begins (opener comment) (60 ∷ bs)) (λ e. rw e (skip-right comment (60 ∷ bs) e))
-    (λ c. rw c (by-bool (begins (opener section) (60 ∷ bs)) (λ e. rw e (skip-right section (60 ∷ bs) e))
+    (λ c. rw c (by-bool (begins (opener charData) (60 ∷ bs)) (λ e. rw e (skip-right charData (60 ∷ bs) e))
     (λ s. rw s (by-bool (begins (opener instruction) (60 ∷ bs)) (λ e. rw e (skip-right instruction (60 ∷ bs) e))
     (λ i. rw i (by-bool (begins (60 ∷ 47 ∷ []) (60 ∷ bs))
     (λ e. rw e (subst (λ x. IfFound (Right x) (endTagAt (drop 1 bs))) (sym (begins-is (60 ∷ 47 ∷ []) (60 ∷ bs) e)) (end-right (drop 1 bs))))
@@ -113,13 +113,13 @@ item-right b bs =
     (λ h. subst (λ c. IfFound (Right (c ∷ bs)) (itemAt (c ∷ bs))) (sym (eqb-true b 60 (not-false (eqb b 60) h))) (rw (at-mark bs) (mark-right bs)))
 
 -- what is found is the item that the bytes begin with
-pub found-front : (b : ℕ) (bs : List ℕ) (i : Item) (rest : List ℕ) → itemAt (b ∷ bs) ≡ some (i, rest) → Front i (b ∷ bs) rest
-found-front b bs i rest e = subst (IfFound (Right (b ∷ bs))) e (item-right b bs)
+pub found-leading : (b : ℕ) (bs : List ℕ) (i : Item) (rest : List ℕ) → itemAt (b ∷ bs) ≡ some (i, rest) → Leading i (b ∷ bs) rest
+found-leading b bs i rest e = subst (IfFound (Right (b ∷ bs))) e (item-right b bs)
 
 -- ---- an item is found
 
 -- text is found
-text-found : (words rest : List ℕ) → (words ≡ [] → ⊥) → every textByte words ≡ true → Begins (λ b. not (textByte b)) rest
+text-found : (words rest : List ℕ) → (words ≡ [] → ⊥) → every textByte words ≡ true → FirstByte (λ b. not (textByte b)) rest
     → itemAt (words ++ rest) ≡ some (text words, rest)
 unfolding every
 text-found [] rest n h k = absurd (n refl)
@@ -128,62 +128,62 @@ text-found (b ∷ words) rest n h k =
     ∙ rw (front-stretch textByte (b ∷ words) rest h k, behind-stretch textByte (b ∷ words) rest h k)
 
 -- the item that the bytes begin with is found
-pub front-found : (i : Item) (bs rest : List ℕ) → Front i bs rest → itemAt bs ≡ some (i, rest)
-front-found (start name) bs rest t = rw (t .written) (at-tag name _ (t .name-right) (t .begins) ∙ tag-found false name bs rest t)
-front-found (close name) bs rest t = rw (t .written) (at-end _ ∙ end-found name (t .space) rest (t .name-right) (t .blank))
-front-found empty bs rest (name, t) = rw (t .written) (at-tag name _ (t .name-right) (t .begins) ∙ tag-found true name bs rest t)
-front-found (text words) bs rest t = rw (t .written) (text-found words rest (t .some-byte) (t .whole) (t .ends))
-front-found skipped bs rest t = rw (t .written) (at-skip (t .kind) _ ∙ skip-found (t .kind) (t .body) rest (t .first))
+pub leading-found : (i : Item) (bs rest : List ℕ) → Leading i bs rest → itemAt bs ≡ some (i, rest)
+leading-found (start name) bs rest t = rw (t .written) (at-tag name _ (t .name-right) (t .not-skipped) ∙ tag-found false name bs rest t)
+leading-found (close name) bs rest t = rw (t .written) (at-end _ ∙ end-found name (t .space) rest (t .name-right) (t .blank))
+leading-found empty bs rest (name, t) = rw (t .written) (at-tag name _ (t .name-right) (t .not-skipped) ∙ tag-found true name bs rest t)
+leading-found (text words) bs rest t = rw (t .written) (text-found words rest (t .some-byte) (t .whole) (t .ends))
+leading-found skipped bs rest t = rw (t .written) (at-skip (t .kind) _ ∙ skip-found (t .kind) (t .body) rest (t .first))
 
 -- ---- items of bytes
 
 -- no item begins where no byte is left
-front-not-nothing : (i : Item) (rest : List ℕ) → Front i [] rest → ⊥
-front-not-nothing (start name) rest t = nil≢cons (t .written)
-front-not-nothing (close name) rest t = nil≢cons (t .written)
-front-not-nothing empty rest t = nil≢cons (t .1 .written)
-front-not-nothing (text words) rest t = go words (t .some-byte) (t .written)
+leading-not-nothing : (i : Item) (rest : List ℕ) → Leading i [] rest → ⊥
+leading-not-nothing (start name) rest t = nil≢cons (t .written)
+leading-not-nothing (close name) rest t = nil≢cons (t .written)
+leading-not-nothing empty rest t = nil≢cons (t .1 .written)
+leading-not-nothing (text words) rest t = go words (t .some-byte) (t .written)
   where
     go : (words : List ℕ) → (words ≡ [] → ⊥) → [] ≡ words ++ rest → ⊥
     go [] n e = n refl
     go (b ∷ words) n e = nil≢cons e
-front-not-nothing skipped rest t = go (t .kind) (t .written)
+leading-not-nothing skipped rest t = go (t .kind) (t .written)
   where
     go : (k : Skip) → [] ≡ opener k ++ (t .body ++ (closer (t .kind) ++ rest)) → ⊥
     go comment e = unfold opener in nil≢cons e
     go instruction e = unfold opener in nil≢cons e
-    go section e = unfold opener in nil≢cons e
+    go charData e = unfold opener in nil≢cons e
 
 -- the items of the relation are those of the function
 reads-found : (items : List Item) (bs : List ℕ) → Reads bs items → readsAs bs ≡ some items
-unfolding Option·elim after
+unfolding Option·elim oneMore
 reads-found [] bs e = rw e reads-nothing
-reads-found (i ∷ items) [] r = absurd (front-not-nothing i (r .0) (r .1))
-reads-found (i ∷ items) (b ∷ bs) r = reads-step b bs ∙ rw (front-found i (b ∷ bs) (r .0) (r .1), reads-found items (r .0) (r .2))
+reads-found (i ∷ items) [] r = absurd (leading-not-nothing i (r .0) (r .1))
+reads-found (i ∷ items) (b ∷ bs) r = reads-step b bs ∙ rw (leading-found i (b ∷ bs) (r .0) (r .1), reads-found items (r .0) (r .2))
 
 -- the first item and the others
-after-first : (i j : Item) (o : Option (List Item)) (items : List Item) → after i o ≡ some (j ∷ items) → (i ≡ j) × (o ≡ some items)
-unfolding after
+after-first : (i j : Item) (o : Option (List Item)) (items : List Item) → oneMore i o ≡ some (j ∷ items) → (i ≡ j) × (o ≡ some items)
+unfolding oneMore
 after-first i j none items e = absurd (Option·some-ne-none _ (sym e))
 after-first i j (some others) items e =
     let both : Path (List Item) (i ∷ others) (j ∷ items) = Option·some-injective _ _ e in
     (head-eq-of-cons-eq both, ap some (tail-eq-of-cons-eq both))
 
 -- at least one
-after-some : (i : Item) (o : Option (List Item)) → after i o ≡ some [] → ⊥
-unfolding after
+after-some : (i : Item) (o : Option (List Item)) → oneMore i o ≡ some [] → ⊥
+unfolding oneMore
 after-some i none e = Option·some-ne-none _ (sym e)
 after-some i (some others) e = cons≢nil (Option·some-injective _ _ e)
 
 -- the first item is found, and the others are those of what stands behind it
-first-item : (o : Found) (i : Item) (items : List Item) → Option·elim o none (λ f. after (f .0) (readsAs (f .1))) ≡ some (i ∷ items)
+first-item : (o : Found) (i : Item) (items : List Item) → Option·elim o none (λ f. oneMore (f .0) (readsAs (f .1))) ≡ some (i ∷ items)
     → (rest : List ℕ) × (o ≡ some (i, rest)) × (readsAs rest ≡ some items)
 unfolding Option·elim
 first-item none i items e = absurd (Option·some-ne-none _ (sym e))
 first-item (some f) i items e = let a = after-first (f .0) i (readsAs (f .1)) items e in (f .1, ap (λ x. some (x, f .1)) (a .0), a .1)
 
 -- bytes that begin with an item read as at least one
-some-item : (o : Found) → Option·elim o none (λ f. after (f .0) (readsAs (f .1))) ≡ some [] → ⊥
+some-item : (o : Found) → Option·elim o none (λ f. oneMore (f .0) (readsAs (f .1))) ≡ some [] → ⊥
 unfolding Option·elim
 some-item none e = Option·some-ne-none _ (sym e)
 some-item (some f) e = after-some (f .0) (readsAs (f .1)) e
@@ -195,7 +195,7 @@ found-reads [] (b ∷ bs) e = absurd (some-item (itemAt (b ∷ bs)) (sym (reads-
 found-reads (i ∷ items) [] e = absurd (nil≢cons (Option·some-injective _ _ (sym reads-nothing ∙ e)))
 found-reads (i ∷ items) (b ∷ bs) e =
     let f = first-item (itemAt (b ∷ bs)) i items (sym (reads-step b bs) ∙ e) in
-    (f .0, found-front b bs i (f .0) (f .1), found-reads items (f .0) (f .2))
+    (f .0, found-leading b bs i (f .0) (f .1), found-reads items (f .0) (f .2))
 
 -- bytes read as these items exactly where the function says so
 pub reads-iff : (bs : List ℕ) (items : List Item) → Reads bs items ↔ (readsAs bs ≡ some items)

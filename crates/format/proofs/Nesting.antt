@@ -10,7 +10,7 @@ use borrow.Author.Tests.{lt-ltb, le-ltb, eq-eqb, eqb-true}
 use Rattle.format.specs.Names.{textContainer}
 use Rattle.format.specs.Markup.{Item, start, close, empty, text, skipped}
 use Rattle.format.specs.Container.{Nodes, nothing, words, emptyTag, passed, element, itemsOf, AtMost}
-use Rattle.format.specs.Container.{sameBytes, inSection, stageAfter, endsWell}
+use Rattle.format.specs.Container.{sameBytes, inSection, startStage, textStage, endsWell}
 use Rattle.format.proofs.Below.{by-bool, and-both}
 
 -- ---- byte strings
@@ -56,7 +56,7 @@ hasSection names (element name inner c) = hasSection (name ∷ names) inner || i
 -- the items of nodes are passed
 nodes-passed : (c : Nodes) (k : ℕ) (found : Bool) (stage : ℕ) (names : List (List ℕ)) (rest : List Item) → AtMost k c → length names + k ≡ 64
     → endsWell found stage names (itemsOf c ++ rest) ≡ endsWell (found || hasSection names c) (stageOf stage c) names rest
-unfolding endsWell stageAfter stageOf isSection hasSection
+unfolding endsWell startStage textStage stageOf isSection hasSection
 nodes-passed nothing k found stage names rest h l = rw (or-false found)
 nodes-passed (words bs c) k found stage names rest h l = nodes-passed c k found _ names rest h l
 nodes-passed (emptyTag c) k found stage names rest h l = nodes-passed c k found 0 names rest h l

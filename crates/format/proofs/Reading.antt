@@ -7,9 +7,9 @@ use mathlib.Core.Option.{Option, none, some, Option·elim}
 use native.Mathlib.Omega.{arith}
 use lib.ListN.{length, drop}
 use lib.Dec.{eqb}
-use Rattle.format.specs.Markup.{Item, Skip, comment, instruction, section, opener, closer, nameByte, white, textByte, isName}
+use Rattle.format.specs.Markup.{Item, Skip, comment, instruction, charData, opener, closer, nameByte, white, textByte, beginsName}
 use Rattle.format.specs.Markup.{Found, front, behind, begins, behindFirst, quoteAfter, behindTag, tagAt, closed, endTagAt, skipAt, markAt, itemAt}
-use Rattle.format.specs.Markup.{orNone, after, readFrom, readsAs}
+use Rattle.format.specs.Markup.{orNone, oneMore, readFrom, readsAs}
 use Rattle.format.proofs.Below.{by-bool}
 
 -- what is found, if anything, has the property
@@ -75,7 +75,7 @@ tagAt-shorter : (n : ℕ) (bs : List ℕ) → length bs ≤ n → IfFound (Leave
 unfolding tagAt
 tagAt-shorter n bs h =
     let k = behind-shorter nameByte bs in
-    either (IfFound (Leaves n)) (isName (front nameByte bs)) _ none
+    either (IfFound (Leaves n)) (beginsName (front nameByte bs)) _ none
     (if-found _ (Leaves n) (behindTag 0 0 (behind nameByte bs)) _ (tag-shorter n 0 0 (behind nameByte bs) (omega arith)) (λ t l. l)) tt
 
 closed-shorter : (n : ℕ) (name bs : List ℕ) → length bs ≤ n → IfFound (Leaves n) (closed name bs)
@@ -88,7 +88,7 @@ unfolding endTagAt
 endTagAt-shorter n bs h =
     let k = behind-shorter nameByte bs in
     let l = behind-shorter white (behind nameByte bs) in
-    either (IfFound (Leaves n)) (isName (front nameByte bs)) _ none
+    either (IfFound (Leaves n)) (beginsName (front nameByte bs)) _ none
     (closed-shorter n (front nameByte bs) (behind white (behind nameByte bs)) (omega arith)) tt
 
 -- a skipped part, and whatever `<` begins, leaves fewer bytes than there were
@@ -101,14 +101,14 @@ skipAt-shorter k b bs =
     opened : (k : Skip) → length (drop (length (opener k)) (b ∷ bs)) ≤ length bs
     opened comment = unfold opener in drop-shorter 3 bs
     opened instruction = unfold opener in drop-shorter 1 bs
-    opened section = unfold opener in drop-shorter 8 bs
+    opened charData = unfold opener in drop-shorter 8 bs
 
 mark-shorter : (b : ℕ) (bs : List ℕ) → IfFound (Leaves (length bs)) (markAt (b ∷ bs))
 unfolding markAt
 mark-shorter b bs =
     let P : Found → Type 0 = IfFound (Leaves (length bs)) in
     either P (begins (opener comment) (b ∷ bs)) _ _ (skipAt-shorter comment b bs)
-    (either P (begins (opener section) (b ∷ bs)) _ _ (skipAt-shorter section b bs)
+    (either P (begins (opener charData) (b ∷ bs)) _ _ (skipAt-shorter charData b bs)
     (either P (begins (opener instruction) (b ∷ bs)) _ _ (skipAt-shorter instruction b bs)
     (either P (begins (60 ∷ 47 ∷ []) (b ∷ bs)) _ _ (endTagAt-shorter (length bs) (drop 1 bs) (drop-shorter 1 bs))
     (tagAt-shorter (length bs) bs (omega arith)))))
@@ -130,10 +130,10 @@ shorter b bs i e = suc-le-suc (subst (IfFound (Leaves (length bs))) e (item-shor
 
 -- the answers are the same where the rests of the bytes read the same
 same-rest : (f g : List ℕ → Option (List Item)) (n : ℕ) (o : Found) → IfFound (Leaves n) o → ((x : List ℕ) → length x ≤ n → f x ≡ g x)
-    → Option·elim o none (λ i. after (i .0) (f (i .1))) ≡ Option·elim o none (λ i. after (i .0) (g (i .1)))
+    → Option·elim o none (λ i. oneMore (i .0) (f (i .1))) ≡ Option·elim o none (λ i. oneMore (i .0) (g (i .1)))
 unfolding Option·elim
 same-rest f g n none h e = refl
-same-rest f g n (some i) h e = ap (after (i .0)) (e (i .1) h)
+same-rest f g n (some i) h e = ap (oneMore (i .0)) (e (i .1) h)
 
 -- with as many items allowed as there are bytes, more change nothing
 pub reads-enough : (n m : ℕ) (bs : List ℕ) → length bs ≤ n → length bs ≤ m → readFrom n bs ≡ readFrom m bs
@@ -153,7 +153,7 @@ unfolding readsAs readFrom orNone
 reads-nothing = refl
 
 -- bytes read as their first item and what the bytes behind it read as
-pub reads-step : (b : ℕ) (bs : List ℕ) → readsAs (b ∷ bs) ≡ Option·elim (itemAt (b ∷ bs)) none (λ i. after (i .0) (readsAs (i .1)))
+pub reads-step : (b : ℕ) (bs : List ℕ) → readsAs (b ∷ bs) ≡ Option·elim (itemAt (b ∷ bs)) none (λ i. oneMore (i .0) (readsAs (i .1)))
 unfolding readsAs readFrom orNone
 reads-step b bs =
     same-rest (readFrom (length bs)) (λ x. readFrom (length x) x) (length bs) (itemAt (b ∷ bs)) (item-shorter b bs)

@@ -8,7 +8,7 @@ use native.Mathlib.Omega.{arith}
 use lib.ListN.{length, drop, length-append}
 use lib.Dec.{eqb}
 use borrow.Author.Tests.{eq-eqb, ne-eqb, eqb-true, not-true}
-use Rattle.format.specs.Markup.{Begins, every, front, behind, begins, behindFirst}
+use Rattle.format.specs.Markup.{FirstByte, every, front, behind, begins, behindFirst}
 use Rattle.format.proofs.Below.{by-bool, and-both}
 use Rattle.format.proofs.Reading.{IfFound, if-so}
 
@@ -32,13 +32,13 @@ module _ (of : ℕ → Bool) where
   every-front (b ∷ bs) = by-bool (of b) (λ e. rw (e, e) (every-front bs)) (λ e. rw e)
 
   -- the rest begins with a byte that is not of it
-  pub behind-begins : (bs : List ℕ) → Begins (λ b. not (of b)) (behind of bs)
+  pub behind-begins : (bs : List ℕ) → FirstByte (λ b. not (of b)) (behind of bs)
   unfolding behind
   behind-begins [] = tt
   behind-begins (b ∷ bs) = by-bool (of b) (λ e. rw e (behind-begins bs)) (λ e. rw (e, e))
 
   -- a stretch of the class before bytes that begin otherwise
-  pub front-stretch : (xs ys : List ℕ) → every of xs ≡ true → Begins (λ b. not (of b)) ys → front of (xs ++ ys) ≡ xs
+  pub front-stretch : (xs ys : List ℕ) → every of xs ≡ true → FirstByte (λ b. not (of b)) ys → front of (xs ++ ys) ≡ xs
   unfolding every front
   front-stretch [] [] h k = refl
   front-stretch [] (y ∷ ys) h k = rw (not-true (of y) k)
@@ -46,7 +46,7 @@ module _ (of : ℕ → Bool) where
       let both = and-both (of x) (every of xs) h in
       rw (both .0) (ap (λ r. x ∷ r) (front-stretch xs ys (both .1) k))
 
-  pub behind-stretch : (xs ys : List ℕ) → every of xs ≡ true → Begins (λ b. not (of b)) ys → behind of (xs ++ ys) ≡ ys
+  pub behind-stretch : (xs ys : List ℕ) → every of xs ≡ true → FirstByte (λ b. not (of b)) ys → behind of (xs ++ ys) ≡ ys
   unfolding every behind
   behind-stretch [] [] h k = refl
   behind-stretch [] (y ∷ ys) h k = rw (not-true (of y) k)

@@ -1,12 +1,12 @@
 -- Which metadata declare a chunk container: an outermost METADATA, in it AttachmentSchema, in that DataFormat, and in that CHUNKCONTAINER alone.
--- It is said twice: `Declares` of what the items enclose; `declares` is the function that contracts cite, with the names of the open tags.
--- The two agree (format/proofs/Container).
+-- It is said twice: `Container` is a relation, by the elements that the items make up; `isContainer` is the function that contracts cite, with the names
+-- of the open tags. The two agree (proofs/Declaring).
 use Prim.Native.Nat.{ℕ, zero, suc}
 use mathlib.Core.Path.{_≡_}
 use mathlib.Core.Logic.{_⊎_}
 use mathlib.Core.List.{List, [], _∷_, _++_}
 use mathlib.Core.Bool.{Bool, true, false, cond, _&&_, _||_}
-use mathlib.Core.Option.{Option, Option·elim}
+use mathlib.Core.Option.{Option·elim}
 use lib.ListN.{length}
 use lib.Dec.{eqb, ltb}
 use Rattle.format.specs.Bytes.{partOf}
@@ -80,25 +80,28 @@ inSection (a ∷ b ∷ []) = false
 inSection (a ∷ b ∷ c ∷ []) = sameBytes a tagFormat && sameBytes b tagSchema && sameBytes c tagMetadata
 inSection (a ∷ b ∷ c ∷ d ∷ names) = false
 
--- how much of the section's end has come: 1 when its last start tag, 2 when the text too, with nothing since
-unfoldable pub stageAfter : ℕ → List (List ℕ) → Item → ℕ
-stageAfter stage names (start name) = cond (inSection (name ∷ names)) 1 0
-stageAfter stage names (close name) = 0
-stageAfter stage names empty = 0
-stageAfter stage names (text bs) = cond (eqb stage 1 && sameBytes bs textContainer) 2 0
-stageAfter stage names skipped = 0
+-- the stage: 1 just behind the section's last start tag, 2 just behind the text that follows it, else 0
 
--- the items from here on end what was begun: names of the open tags, innermost first, the stage, and whether there was a section before
+-- behind a start tag, which is the first of the open ones
+unfoldable pub startStage : List (List ℕ) → ℕ
+startStage names = cond (inSection names) 1 0
+
+-- behind a text
+unfoldable pub textStage : ℕ → List ℕ → ℕ
+textStage stage bs = cond (eqb stage 1 && sameBytes bs textContainer) 2 0
+
+-- whether there was a section, the stage, and the names of the open tags, innermost first: the items that follow close all of them in turn, with at
+-- most 64 open at once, and there was a section or is one among them
 unfoldable pub endsWell : Bool → ℕ → List (List ℕ) → List Item → Bool
 endsWell found stage [] [] = found
 endsWell found stage (n ∷ names) [] = false
 endsWell found stage names (start name ∷ items) =
-    cond (ltb (length names) 64) (endsWell found (stageAfter stage names (start name)) (name ∷ names) items) false
+    cond (ltb (length names) 64) (endsWell found (startStage (name ∷ names)) (name ∷ names) items) false
 endsWell found stage [] (close name ∷ items) = false
 endsWell found stage (n ∷ names) (close name ∷ items) =
     cond (sameBytes name n) (endsWell (found || eqb stage 2) 0 names items) false
 endsWell found stage names (empty ∷ items) = endsWell found 0 names items
-endsWell found stage names (text bs ∷ items) = endsWell found (stageAfter stage names (text bs)) names items
+endsWell found stage names (text bs ∷ items) = endsWell found (textStage stage bs) names items
 endsWell found stage names (skipped ∷ items) = endsWell found 0 names items
 
 unfoldable pub declares : List Item → Bool

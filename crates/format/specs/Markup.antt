@@ -1,9 +1,8 @@
--- The markup of a sub-block's metadata: the items that its bytes read as. It is said twice: `Reads` has a rule for each kind of item;
--- `readsAs` is the function that contracts cite, with what stands behind each item. The two agree (format/proofs/Markup).
--- The bytes that count are `!` 33, `"` 34, `'` 39, `-` 45, `/` 47, `<` 60, `>` 62, `?` 63, `[` 91, `]` 93.
+-- The markup of a sub-block's metadata: the items that its bytes read as. It is said twice: `Reads` is a relation with
+-- a rule for each kind of item; `readsAs` is a function, the one that `isContainer` (specs/Container) goes by. They agree and leave no choice
+-- (proofs/Markup). Bytes by their numbers: white space 9, 10, 13, 32; `!` 33, `"` 34, `'` 39, `-` 45, `/` 47, `<` 60, `>` 62, `?` 63, `[` 91, `]` 93.
 use Prim.Native.Nat.{ℕ, zero, suc}
 use mathlib.Core.Path.{_≡_}
-use mathlib.Core.Logic.{_⊎_}
 use mathlib.Core.List.{List, [], _∷_, _++_}
 use mathlib.Core.Bool.{Bool, true, false, cond, not, _&&_}
 use mathlib.Core.Option.{Option, none, some, Option·elim}
@@ -33,12 +32,12 @@ nameByte b = not (anyOf (white b ∷ eqb b 47 ∷ eqb b 62 ∷ eqb b 60 ∷ []))
 unfoldable pub textByte : ℕ → Bool
 textByte b = not (eqb b 60)
 
--- a quote; in a start tag outside quotes neither `<` nor `>` stands
 unfoldable pub quote : ℕ → Bool
 quote b = anyOf (eqb b 34 ∷ eqb b 39 ∷ [])
 
-unfoldable pub plainByte : ℕ → Bool
-plainByte b = not (anyOf (quote b ∷ eqb b 60 ∷ eqb b 62 ∷ []))
+-- between a start tag's name and its `>`, outside quotes, `<` doesn't stand
+unfoldable pub bareByte : ℕ → Bool
+bareByte b = not (anyOf (quote b ∷ eqb b 60 ∷ eqb b 62 ∷ []))
 
 -- each byte is of the class
 unfoldable pub every : (ℕ → Bool) → List ℕ → Bool
@@ -47,33 +46,33 @@ every of (b ∷ bs) = of b && every of bs
 
 -- ---- the relation
 
--- bytes that begin so, or none at all
-abbrev pub Begins : (ℕ → Bool) → List ℕ → Type 0
-Begins of [] = Unit
-Begins of (b ∷ bs) = of b ≡ true
+-- the first byte, if there is one, is of the class
+abbrev pub FirstByte : (ℕ → Bool) → List ℕ → Type 0
+FirstByte of [] = Unit
+FirstByte of (b ∷ bs) = of b ≡ true
 
--- not empty, and not begun with `!`
-unfoldable pub isName : List ℕ → Bool
-isName [] = false
-isName (b ∷ bs) = not (eqb b 33)
+-- a name is not empty, and not begun with `!`
+unfoldable pub beginsName : List ℕ → Bool
+beginsName [] = false
+beginsName (b ∷ bs) = not (eqb b 33)
 
 pub record Name (name : List ℕ) : Type 0 where
-  pub named : isName name ≡ true
+  pub named : beginsName name ≡ true
   pub whole : every nameByte name ≡ true
 
--- what stands between a start tag's name and its `>`: bytes outside quotes, and quoted stretches, by the quote and what it encloses
-pub data Attribute : Type 0 where
-  plain : ℕ → Attribute
-  quoted : ℕ → List ℕ → Attribute
+-- what stands between the name of a start tag or an empty-element tag and its `>`: bytes outside quotes, and quoted stretches, by the quote and what it encloses
+pub data Inside : Type 0 where
+  bare : ℕ → Inside
+  quoted : ℕ → List ℕ → Inside
 
-abbrev pub spelled : List Attribute → List ℕ
+abbrev pub spelled : List Inside → List ℕ
 spelled [] = []
-spelled (plain b ∷ rest) = b ∷ spelled rest
+spelled (bare b ∷ rest) = b ∷ spelled rest
 spelled (quoted q bs ∷ rest) = q ∷ bs ++ (q ∷ spelled rest)
 
-abbrev pub Quoting : List Attribute → Type 0
+abbrev pub Quoting : List Inside → Type 0
 Quoting [] = Unit
-Quoting (plain b ∷ rest) = (plainByte b ≡ true) × Quoting rest
+Quoting (bare b ∷ rest) = (bareByte b ≡ true) × Quoting rest
 Quoting (quoted q bs ∷ rest) = (quote q ≡ true) × (every (λ b. not (eqb b q)) bs ≡ true) × Quoting rest
 
 -- the last byte is `/`
@@ -85,12 +84,12 @@ slashed (b ∷ c ∷ bs) = slashed (c ∷ bs)
 -- a start tag, or an empty-element tag: `/` stands just before its `>`. `<?` begins no tag
 pub record Tag (isEmpty : Bool) (name bs rest : List ℕ) : Type 0 where
   pub name-right : Name name
-  pub begins : Begins (λ b. not (eqb b 63)) name
-  pub attributes : List Attribute
-  pub parted : Begins (λ b. not (nameByte b)) (spelled attributes)
-  pub quoting : Quoting attributes
-  pub kind : slashed (spelled attributes) ≡ isEmpty
-  pub written : bs ≡ 60 ∷ name ++ (spelled attributes ++ (62 ∷ rest))
+  pub not-skipped : FirstByte (λ b. not (eqb b 63)) name
+  pub inside : List Inside
+  pub parted : FirstByte (λ b. not (nameByte b)) (spelled inside)
+  pub quoting : Quoting inside
+  pub ends : slashed (spelled inside) ≡ isEmpty
+  pub written : bs ≡ 60 ∷ name ++ (spelled inside ++ (62 ∷ rest))
 
 -- an end tag has at most white space after its name
 pub record EndTag (name bs rest : List ℕ) : Type 0 where
@@ -103,22 +102,22 @@ pub record EndTag (name bs rest : List ℕ) : Type 0 where
 pub record Text (words bs rest : List ℕ) : Type 0 where
   pub some-byte : words ≡ [] → ⊥
   pub whole : every textByte words ≡ true
-  pub ends : Begins (λ b. not (textByte b)) rest
+  pub ends : FirstByte (λ b. not (textByte b)) rest
   pub written : bs ≡ words ++ rest
 
 -- a comment, `<!--` to `-->`; `<?` to `?>`; a character-data section, `<![CDATA[` to `]]>`
 pub data Skip : Type 0 where
-  comment instruction section : Skip
+  comment instruction charData : Skip
 
 unfoldable pub opener : Skip → List ℕ
 opener comment = 60 ∷ 33 ∷ 45 ∷ 45 ∷ []
 opener instruction = 60 ∷ 63 ∷ []
-opener section = 60 ∷ 33 ∷ 91 ∷ 67 ∷ 68 ∷ 65 ∷ 84 ∷ 65 ∷ 91 ∷ []
+opener charData = 60 ∷ 33 ∷ 91 ∷ 67 ∷ 68 ∷ 65 ∷ 84 ∷ 65 ∷ 91 ∷ []
 
 unfoldable pub closer : Skip → List ℕ
 closer comment = 45 ∷ 45 ∷ 62 ∷ []
 closer instruction = 63 ∷ 62 ∷ []
-closer section = 93 ∷ 93 ∷ 62 ∷ []
+closer charData = 93 ∷ 93 ∷ 62 ∷ []
 
 -- it ends with the first closer behind its opener
 pub record Skipped (bs rest : List ℕ) : Type 0 where
@@ -128,17 +127,17 @@ pub record Skipped (bs rest : List ℕ) : Type 0 where
   pub first : (before after : List ℕ) → body ++ closer kind ≡ before ++ (closer kind ++ after) → after ≡ []
 
 -- bs begin with the item, and rest stands behind it
-abbrev pub Front : Item → List ℕ → List ℕ → Type 0
-Front (start name) bs rest = Tag false name bs rest
-Front (close name) bs rest = EndTag name bs rest
-Front empty bs rest = (name : List ℕ) × Tag true name bs rest
-Front (text words) bs rest = Text words bs rest
-Front skipped bs rest = Skipped bs rest
+abbrev pub Leading : Item → List ℕ → List ℕ → Type 0
+Leading (start name) bs rest = Tag false name bs rest
+Leading (close name) bs rest = EndTag name bs rest
+Leading empty bs rest = (name : List ℕ) × Tag true name bs rest
+Leading (text words) bs rest = Text words bs rest
+Leading skipped bs rest = Skipped bs rest
 
 -- bs read as these items
 abbrev pub Reads : List ℕ → List Item → Type 0
 Reads bs [] = bs ≡ []
-Reads bs (i ∷ items) = (rest : List ℕ) × Front i bs rest × Reads rest items
+Reads bs (i ∷ items) = (rest : List ℕ) × Leading i bs rest × Reads rest items
 
 -- ---- the function
 
@@ -157,16 +156,17 @@ begins [] bs = true
 begins (x ∷ xs) [] = false
 begins (x ∷ xs) (b ∷ bs) = eqb b x && begins xs bs
 
--- what stands behind the first xs
+-- what stands behind the first xs, which are not empty
 unfoldable pub behindFirst : List ℕ → List ℕ → Option (List ℕ)
 behindFirst xs [] = none
 behindFirst xs (b ∷ bs) = cond (begins xs (b ∷ bs)) (some (drop (length xs) (b ∷ bs))) (behindFirst xs bs)
 
--- the quote after a byte; 0 outside quotes
+-- the quote that is open after a byte, by the one that was before it; 0 outside quotes
 unfoldable pub quoteAfter : ℕ → ℕ → ℕ
 quoteAfter q b = cond (eqb q 0) (cond (quote b) b 0) (cond (eqb b q) 0 q)
 
--- from behind a start tag's name on, with the quote and the last byte before: whether the tag is empty, and what stands behind its `>`
+-- from behind a tag's name on, by the quote that is open and the last byte since the name, 0 where there is none: whether the tag is empty, and what
+-- stands behind its `>`; none where it breaks off or `<` stands outside quotes
 unfoldable pub behindTag : ℕ → ℕ → List ℕ → Option (Bool × List ℕ)
 behindTag q last [] = none
 behindTag q last (b ∷ bs) =
@@ -181,7 +181,7 @@ Found = Option (Item × List ℕ)
 -- from behind `<` on
 unfoldable pub tagAt : List ℕ → Found
 tagAt bs =
-    cond (isName (front nameByte bs))
+    cond (beginsName (front nameByte bs))
     (Option·elim (behindTag 0 0 (behind nameByte bs)) none (λ t. some (cond (t .0) empty (start (front nameByte bs)), t .1)))
     none
 
@@ -192,9 +192,9 @@ closed name (b ∷ bs) = cond (eqb b 62) (some (close name, bs)) none
 
 -- from behind `</` on
 unfoldable pub endTagAt : List ℕ → Found
-endTagAt bs = cond (isName (front nameByte bs)) (closed (front nameByte bs) (behind white (behind nameByte bs))) none
+endTagAt bs = cond (beginsName (front nameByte bs)) (closed (front nameByte bs) (behind white (behind nameByte bs))) none
 
--- the skipped part that bs begin with
+-- the skipped part whose opener bs begin with
 unfoldable pub skipAt : Skip → List ℕ → Found
 skipAt k bs = Option·elim (behindFirst (closer k) (drop (length (opener k)) bs)) none (λ rest. some (skipped, rest))
 
@@ -202,12 +202,12 @@ skipAt k bs = Option·elim (behindFirst (closer k) (drop (length (opener k)) bs)
 unfoldable pub markAt : List ℕ → Found
 markAt bs =
     cond (begins (opener comment) bs) (skipAt comment bs)
-    (cond (begins (opener section) bs) (skipAt section bs)
+    (cond (begins (opener charData) bs) (skipAt charData bs)
     (cond (begins (opener instruction) bs) (skipAt instruction bs)
     (cond (begins (60 ∷ 47 ∷ []) bs) (endTagAt (drop 2 bs))
     (tagAt (drop 1 bs)))))
 
--- the item that bs begin with; none where they don't read
+-- the item that bs, which are not empty, begin with; none where none begins so
 unfoldable pub itemAt : List ℕ → Found
 itemAt bs =
     cond (begins (60 ∷ []) bs) (markAt bs)
@@ -219,14 +219,14 @@ orNone [] items = some []
 orNone (b ∷ bs) items = items
 
 -- one item more
-unfoldable pub after : Item → Option (List Item) → Option (List Item)
-after i none = none
-after i (some items) = some (i ∷ items)
+unfoldable pub oneMore : Item → Option (List Item) → Option (List Item)
+oneMore i none = none
+oneMore i (some items) = some (i ∷ items)
 
--- the items that bs read as, of which there are at most n; none where they don't read
+-- the items that bs read as; none where they don't read, or as more than n
 unfoldable pub readFrom : ℕ → List ℕ → Option (List Item)
 readFrom zero bs = orNone bs none
-readFrom (suc n) bs = orNone bs (Option·elim (itemAt bs) none (λ i. after (i .0) (readFrom n (i .1))))
+readFrom (suc n) bs = orNone bs (Option·elim (itemAt bs) none (λ i. oneMore (i .0) (readFrom n (i .1))))
 
 unfoldable pub readsAs : List ℕ → Option (List Item)
 readsAs bs = readFrom (length bs) bs

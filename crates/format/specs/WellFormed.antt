@@ -5,14 +5,15 @@ use mathlib.Core.Logic.{_⊎_}
 use mathlib.Core.List.{List, [], _∷_}
 use mathlib.Core.Bool.{true, false}
 use lib.ListN.{length, getD}
-use Rattle.format.specs.Bytes.{sameAt}
+use Rattle.format.specs.Bytes.{sameAt, partOf}
 use Rattle.format.specs.Names.{nameDirectory, nameSubBlock, nameMetadata, nameAttachment, nameAttachmentDirectory}
 use Rattle.format.specs.Scan.{Scan, blockFile}
 use Rattle.format.specs.Segments.{nextSegment, lengthBad, nameBad, sizesBad, roleBad}
 use Rattle.format.specs.File.{major, filePart, updatePending, directoryPosition, metadataPosition, attachmentDirectoryPosition}
 use Rattle.format.specs.Entry.{pixelType, pixelBytes, filePosition, entryPart, compression, nextEntry, headBad, dimensionsBad}
-use Rattle.format.specs.SubBlock.{attachmentSize, subBlockBad, contentsBad, attachmentPlace}
-use Rattle.format.specs.Masks.{hasChunks, nextChunk, chunkBad, isMask, maskBad}
+use Rattle.format.specs.SubBlock.{metadataSize, attachmentSize, subBlockBad, contentsBad, metadataPlace, attachmentPlace}
+use Rattle.format.specs.Container.{Container}
+use Rattle.format.specs.Masks.{nextChunk, chunkBad, isMask, maskBad}
 use Rattle.format.specs.Directory.{roomEnd, tileCount, entryPlace, directoryBad}
 use Rattle.format.specs.Attachments.{metadataBad, attachmentDirectoryBad, attachmentEntryCount, attachmentEntry, attachmentPosition, attachmentPart, attachmentEntryBad, attachmentBad, attachmentDataBad}
 
@@ -49,7 +50,11 @@ pub record Chunks (bs : List ℕ) (a end : ℕ) : Type 0 where
   pub mask : Each (λ c. isMask bs c ≡ true → maskBad bs c ≡ false) chunks
   pub one : (i j : ℕ) → i < length chunks → j < length chunks → isMask bs (getD chunks i 0) ≡ true → isMask bs (getD chunks j 0) ≡ true → i ≡ j
 
--- the attachment of the sub-block at q of the file bs, its entry at e of the file ds, is filled by its chunks
+-- the sub-block at q of the file bs, its entry at e of the file ds: its metadata declare a container
+abbrev pub DeclaresChunks : List ℕ → ℕ → List ℕ → ℕ → Type 0
+DeclaresChunks ds e bs q = Container (partOf bs (metadataPlace ds e q) (metadataSize bs q))
+
+-- its attachment is filled by its chunks
 abbrev pub ChunksFill : List ℕ → ℕ → List ℕ → ℕ → Type 0
 ChunksFill ds e bs q = Chunks bs (attachmentPlace ds e bs q) (attachmentPlace ds e bs q + attachmentSize bs q)
 
@@ -66,7 +71,7 @@ pub record Entry (sc : Scan) (segments : List ℕ) (d e : ℕ) : Type 0 where
   pub names : Names (blockFile sc e) segments (filePosition (sc .file) e) nameSubBlock
   pub block : subBlockBad (sc .file) e (blockFile sc e) (filePosition (sc .file) e) ≡ false
   pub contents : contentsBad (sc .file) e (blockFile sc e) (filePosition (sc .file) e) ≡ false
-  pub container : hasChunks (sc .file) e (blockFile sc e) (filePosition (sc .file) e) ≡ true → ChunksFill (sc .file) e (blockFile sc e) (filePosition (sc .file) e)
+  pub container : DeclaresChunks (sc .file) e (blockFile sc e) (filePosition (sc .file) e) → ChunksFill (sc .file) e (blockFile sc e) (filePosition (sc .file) e)
 
 -- ---- an entry A1 at e, and its attachment
 

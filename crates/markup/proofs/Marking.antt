@@ -11,7 +11,7 @@ use borrow.Author.Tests.{eq-eqb, ne-eqb}
 use lib.ListN.{length, getD, drop}
 use lib.Dec.{eqb}
 use Rattle.format.specs.Bytes.{anyOf}
-use Rattle.format.specs.Markup.{text, comment, instruction, section, opener, closer, white, nameByte, textByte, isName, begins, front, behind, tagAt, endTagAt, skipAt, markAt, itemAt, Found}
+use Rattle.format.specs.Markup.{text, comment, instruction, charData, opener, closer, white, nameByte, textByte, beginsName, begins, front, behind, tagAt, endTagAt, skipAt, markAt, itemAt, Found}
 use Rattle.markup.specs.Stretches.{stretch, Passed}
 use Rattle.markup.specs.Tokens.{Stands, skippedBehind, declarationAt}
 use Rattle.markup.specs.declared.Token.{Token}
@@ -22,7 +22,7 @@ use Rattle.markup.proofs.Comparing.{begins-short}
 -- ---- in a list
 
 item-declaration : (xs : List ℕ) → itemAt (60 ∷ 33 ∷ xs) ≡ declarationAt xs
-unfolding itemAt markAt skipAt declarationAt skippedBehind begins opener tagAt front nameByte white anyOf isName
+unfolding itemAt markAt skipAt declarationAt skippedBehind begins opener tagAt front nameByte white anyOf beginsName
 item-declaration xs = refl
 
 item-instruction : (xs : List ℕ) → itemAt (60 ∷ 63 ∷ xs) ≡ skippedBehind (63 ∷ 62 ∷ []) xs
@@ -38,7 +38,7 @@ unfolding itemAt markAt begins opener
 item-tag b xs h k l = rw (ne-eqb b 33 h, ne-eqb b 63 k, ne-eqb b 47 l)
 
 item-cut : itemAt (60 ∷ []) ≡ none
-unfolding itemAt markAt begins opener tagAt front isName
+unfolding itemAt markAt begins opener tagAt front beginsName
 item-cut = refl
 
 item-text : (b : ℕ) (xs : List ℕ) → (b ≡ 60 → ⊥) → itemAt (b ∷ xs) ≡ some (text (front textByte (b ∷ xs)), behind textByte (b ∷ xs))

@@ -9,7 +9,7 @@ use borrow.Author.Tests.{eq-eqb, ne-eqb, not-true, not-false}
 use lib.ListN.{length, getD}
 use lib.Dec.{eqb}
 use Rattle.format.specs.Bytes.{partOf}
-use Rattle.format.specs.Markup.{close, white, nameByte, isName, front, behind, tagAt, endTagAt, closed}
+use Rattle.format.specs.Markup.{close, white, nameByte, beginsName, front, behind, tagAt, endTagAt, closed}
 use Rattle.markup.specs.Stretches.{stretch, Passed}
 use Rattle.markup.specs.Tokens.{Stands, tagBehind}
 use Rattle.markup.specs.declared.Token.{Token}
@@ -19,25 +19,25 @@ use Rattle.markup.proofs.Stretching.{stretch-none, stretch-one}
 -- ---- a name
 
 module _ (bs : List ℕ) (at stop : ℕ) where
-  pub name-none : at ≡ stop → false ≡ isName (stretch bs at stop)
-  unfolding isName
+  pub name-none : at ≡ stop → false ≡ beginsName (stretch bs at stop)
+  unfolding beginsName
   name-none e = rw (stretch-none bs at stop (omega (arith, e)))
 
   module _ (b : ℕ) (inside : at ≤ stop) (fits : stop ≤ length bs) (h : at ≡ stop → ⊥) (e : b ≡ getD bs at 0) where
     one : stretch bs at stop ≡ b ∷ stretch bs (at + 1) stop
     one = rw e (stretch-one bs at stop (omega arith) fits)
 
-    pub name-wrong : b ≡ 33 → false ≡ isName (stretch bs at stop)
-    unfolding isName
+    pub name-wrong : b ≡ 33 → false ≡ beginsName (stretch bs at stop)
+    unfolding beginsName
     name-wrong z = rw (one, eq-eqb b 33 z)
 
-    pub name-right : (b ≡ 33 → ⊥) → true ≡ isName (stretch bs at stop)
-    unfolding isName
+    pub name-right : (b ≡ 33 → ⊥) → true ≡ beginsName (stretch bs at stop)
+    unfolding beginsName
     name-right z = rw (one, ne-eqb b 33 z)
 
 -- ---- a tag, from behind `<` on
 
-module _ (bs : List ℕ) (at end stop : ℕ) (p : Passed nameByte bs at end stop) (named : Bool) (e : named ≡ isName (stretch bs at stop)) where
+module _ (bs : List ℕ) (at end stop : ℕ) (p : Passed nameByte bs at end stop) (named : Bool) (e : named ≡ beginsName (stretch bs at stop)) where
   pub tag-unnamed : not named ≡ true → Stands bs at end (tagAt (stretch bs at end)) Broken
   unfolding tagAt
   tag-unnamed h = record { says = rw (p .before, ← e, not-true named h); ahead = tt }

@@ -12,9 +12,9 @@ use lib.Seq.{getD-set-same, getD-set-other}
 use lib.Dec.{eqb}
 use Rattle.format.specs.Bytes.{partOf}
 use Rattle.format.specs.Names.{tagMetadata, tagSchema, tagFormat, textContainer}
-use Rattle.format.specs.Container.{sameBytes, inSection}
+use Rattle.format.specs.Container.{sameBytes, inSection, startStage, textStage}
 use Rattle.markup.specs.Stretches.{stretch}
-use Rattle.markup.specs.Open.{openNames, Lie, startStage, textStage}
+use Rattle.markup.specs.Open.{openNames, Lie}
 
 -- ---- the names
 

@@ -10,12 +10,12 @@ use borrow.Author.Tests.{lt-ltb, le-ltb, not-true, not-false}
 use lib.ListN.{length, getD, set, replicate, length-replicate}
 use lib.Dec.{eqb, ltb}
 use Rattle.format.specs.Bytes.{partOf}
-use Rattle.format.specs.Markup.{Item, start, close, empty, text, skipped, Found, itemAt, after, readsAs}
-use Rattle.format.specs.Container.{sameBytes, inSection, stageAfter, endsWell, declares, isContainer}
+use Rattle.format.specs.Markup.{Item, start, close, empty, text, skipped, Found, itemAt, oneMore, readsAs}
+use Rattle.format.specs.Container.{sameBytes, startStage, textStage, endsWell, declares, isContainer}
 use Rattle.format.proofs.Reading.{reads-step, reads-nothing}
 use Rattle.markup.specs.Stretches.{stretch}
 use Rattle.markup.specs.Tokens.{Stands}
-use Rattle.markup.specs.Open.{openNames, Lie, startStage, textStage}
+use Rattle.markup.specs.Open.{openNames, Lie}
 use Rattle.markup.specs.declared.Token.{Token}
 use Rattle.markup.specs.declared.Token.the-variants.{Broken, Start, Close, Empty, Text, Skipped}
 use Rattle.markup.proofs.Stretching.{stretch-none, stretch-one}
@@ -37,8 +37,8 @@ unfolding Option·elim
 never none f h = refl
 never (some items) f h = h items
 
-one-item : (i : Item) (o : Option (List Item)) (f : List Item → Bool) → Option·elim (after i o) false f ≡ Option·elim o false (λ items. f (i ∷ items))
-unfolding Option·elim after
+one-item : (i : Item) (o : Option (List Item)) (f : List Item → Bool) → Option·elim (oneMore i o) false f ≡ Option·elim o false (λ items. f (i ∷ items))
+unfolding Option·elim oneMore
 one-item i none f = refl
 one-item i (some items) f = refl
 
@@ -59,7 +59,7 @@ module _ (found : Bool) (stage : ℕ) (names : List (List ℕ)) (rest : List ℕ
   With i = Option·elim (readsAs rest) false (λ items. endsWell found stage names (i ∷ items))
 
   with-start : (name : List ℕ) → length names < 64 → With (start name) ≡ decides found (startStage (name ∷ names)) (name ∷ names) rest
-  unfolding decides endsWell stageAfter startStage
+  unfolding decides endsWell
   with-start name h = like (readsAs rest) _ _ (λ items. rw (lt-ltb (length names) 64 h))
 
   with-many : (name : List ℕ) → 64 ≤ length names → With (start name) ≡ false
@@ -75,7 +75,7 @@ module _ (found : Bool) (stage : ℕ) (names : List (List ℕ)) (rest : List ℕ
   with-skipped = like (readsAs rest) _ _ (λ items. refl)
 
   with-text : (words : List ℕ) → With (text words) ≡ decides found (textStage stage words) names rest
-  unfolding decides endsWell stageAfter textStage
+  unfolding decides endsWell
   with-text words = like (readsAs rest) _ _ (λ items. refl)
 
 -- an end tag

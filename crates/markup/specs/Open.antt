@@ -1,13 +1,9 @@
--- The open tags, by where their names stand in the file, and how much of the container's section has come.
+-- The open tags, by where their names stand in the file.
 use Prim.Native.Nat.{ℕ, zero, suc, _+_, _≤_, _<_}
 use mathlib.Core.Path.{_≡_}
-use mathlib.Core.Bool.{Bool, cond, _&&_}
 use mathlib.Core.List.{List, [], _∷_}
 use lib.ListN.{length, getD}
-use lib.Dec.{eqb}
 use Rattle.format.specs.Bytes.{partOf}
-use Rattle.format.specs.Names.{textContainer}
-use Rattle.format.specs.Container.{sameBytes, inSection}
 
 -- their names, innermost first: the last of `depth` places and lengths is the innermost's
 abbrev pub openNames : List ℕ → List ℕ → List ℕ → ℕ → List (List ℕ)
@@ -20,10 +16,3 @@ pub record Lie (bs places lengths : List ℕ) (depth : ℕ) : Type 0 where
   pub lengths-room : length lengths ≡ 64
   pub few : depth ≤ 64
   pub each : (k : ℕ) → k < depth → getD places k 0 + getD lengths k 0 ≤ length bs
-
--- how much of the section's end has come: with a start tag, which is the first of the open ones, and with a text
-unfoldable pub startStage : List (List ℕ) → ℕ
-startStage names = cond (inSection names) 1 0
-
-unfoldable pub textStage : ℕ → List ℕ → ℕ
-textStage stage bs = cond (eqb stage 1 && sameBytes bs textContainer) 2 0

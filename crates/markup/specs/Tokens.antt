@@ -7,7 +7,7 @@ use mathlib.Core.Option.{Option, none, some, Option·elim}
 use lib.ListN.{drop}
 use lib.Dec.{eqb}
 use Rattle.format.specs.Bytes.{partOf}
-use Rattle.format.specs.Markup.{start, close, empty, text, skipped, comment, section, closer, begins, behindFirst, behindTag, Found}
+use Rattle.format.specs.Markup.{start, close, empty, text, skipped, comment, charData, closer, begins, behindFirst, behindTag, Found}
 use Rattle.markup.specs.Stretches.{stretch}
 use Rattle.markup.specs.declared.Token.{Token}
 use Rattle.markup.specs.declared.Token.the-variants.{Broken, Start, Close, Empty, Text, Skipped}
@@ -50,5 +50,5 @@ skippedBehind m bs = Option·elim (behindFirst m bs) none (λ rest. some (skippe
 unfoldable pub declarationAt : List ℕ → Found
 declarationAt bs =
     cond (begins (45 ∷ 45 ∷ []) bs) (skippedBehind (closer comment) (drop 2 bs))
-    (cond (begins (91 ∷ 67 ∷ 68 ∷ 65 ∷ 84 ∷ 65 ∷ 91 ∷ []) bs) (skippedBehind (closer section) (drop 7 bs))
+    (cond (begins (91 ∷ 67 ∷ 68 ∷ 65 ∷ 84 ∷ 65 ∷ 91 ∷ []) bs) (skippedBehind (closer charData) (drop 7 bs))
     none)

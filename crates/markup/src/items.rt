@@ -7,7 +7,7 @@ ghost use Prim.Native.Nat.{_+_, _-_, _<_, _≤_};
 ghost use lib.ListN.{length, getD};
 ghost use lib.Dec.{eqb};
 ghost use Rattle.format.specs.Bytes.{partOf};
-ghost use Rattle.format.specs.Markup.{quote, quoteAfter, isName, tagAt, endTagAt, itemAt};
+ghost use Rattle.format.specs.Markup.{quote, quoteAfter, beginsName, tagAt, endTagAt, itemAt};
 ghost use Rattle.markup.specs.Stretches.{stretch};
 ghost use Rattle.markup.specs.Tokens.{Stands, tagToken, tagBehind, skippedBehind, declarationAt};
 
@@ -111,9 +111,9 @@ fn tag_end(s: &[u8], from: u64, at: u64, end: u64) -> Token
 }
 
 // Whether the bytes from at up to stop are a name: there is one, and the first isn't `!`.
-fn is_name(s: &[u8], at: u64, stop: u64) -> bool
+fn begins_name(s: &[u8], at: u64, stop: u64) -> bool
     requires { ⌜ (at ≤ stop) × (stop ≤ length (now s)) ⌝ }
-    ensures { λ r. ⌜ r ≡ isName (stretch (now (s .entry)) at stop) ⌝ }
+    ensures { λ r. ⌜ r ≡ beginsName (stretch (now (s .entry)) at stop) ⌝ }
 {
     if at == stop {
         return false;
@@ -130,7 +130,7 @@ fn tag(s: &[u8], at: u64, end: u64) -> Token
     ensures { λ r. ⌜ Stands (now (s .entry)) at end (tagAt (stretch (now (s .entry)) at end)) r ⌝ }
 {
     let stop = stretches::name_end(s, at, end);
-    if !is_name(s, at, stop) {
+    if !begins_name(s, at, stop) {
         return Token::Broken;
     }
     tag_end(s, at, stop, end)
@@ -142,7 +142,7 @@ fn end_tag(s: &[u8], at: u64, end: u64) -> Token
     ensures { λ r. ⌜ Stands (now (s .entry)) at end (endTagAt (stretch (now (s .entry)) at end)) r ⌝ }
 {
     let stop = stretches::name_end(s, at, end);
-    if !is_name(s, at, stop) {
+    if !begins_name(s, at, stop) {
         return Token::Broken;
     }
     let mark = stretches::white_end(s, stop, end);

@@ -7,9 +7,9 @@ ghost use Prim.Native.Nat.{_+_, _<_, _≤_};
 ghost use lib.ListN.{length};
 ghost use lib.Dec.{eqb};
 ghost use Rattle.format.specs.Bytes.{partOf};
-ghost use Rattle.format.specs.Container.{sameBytes, inSection, isContainer};
+ghost use Rattle.format.specs.Container.{sameBytes, inSection, startStage, textStage, isContainer};
 ghost use Rattle.markup.specs.Stretches.{stretch};
-ghost use Rattle.markup.specs.Open.{Lie, openNames, startStage, textStage};
+ghost use Rattle.markup.specs.Open.{Lie, openNames};
 
 // Whether the length bytes from a place on are those of name.
 fn is_named(s: &[u8], from: u64, count: u64, name: &[u8]) -> bool

@@ -1,4 +1,4 @@
-// The chunk container in a sub-block's attachment: the marker that makes it one, its chunks and their refusals, and the valid-pixel mask.
+// The chunks in a sub-block's attachment and their refusals, and the valid-pixel mask.
 // A chunk is given by the file offset c of its header; end is the file offset behind the attachment.
 use format::Chunk;
 use format::Content;
@@ -9,46 +9,9 @@ ghost use mathlib.Core.Path.{_≡_};
 ghost use mathlib.Core.Bool.{Bool, true, false};
 ghost use Prim.Native.Nat.{_+_, _-_, _<_, _≤_, _^_};
 ghost use lib.ListN.{length};
-ghost use Rattle.format.specs.Bytes.{anyBelow, sameAt};
 ghost use Rattle.format.specs.Checks.{first};
-ghost use Rattle.format.specs.Masks.{isContainer, chunkSize, chunkBad, isMask, maskWidth, maskHeight, maskStride, maskBad, maskRefused, chunkRows, chunksRows, maskShape, chunkAt, maskFrom, maskValid};
+ghost use Rattle.format.specs.Masks.{chunkSize, chunkBad, isMask, maskWidth, maskHeight, maskStride, maskBad, maskRefused, chunkRows, chunksRows, maskShape, chunkAt, maskFrom, maskValid};
 ghost use Rattle.format.specs.declared.Verdict.the-variants.{Accepted};
-
-// Whether m stands at one of the count positions from p on.
-fn stands(s: &[u8], p: usize, count: usize, m: &[u8]) -> bool
-    requires { ⌜ p + count + length (now m) ≤ length (now s) + 1 ⌝ }
-    ensures { λ r. ⌜ r ≡ anyBelow count (λ i. sameAt (now (s .entry)) (p + i) (now (m .entry))) ⌝ }
-{
-    let mut found = false;
-    let mut i: usize = 0;
-    'outer: while i < count {
-        let at = p + i;
-        let mut j: usize = 0;
-        while j < m.len() {
-            if s[at + j] != m[j] {
-                i += 1;
-                continue 'outer;
-            }
-            j += 1;
-        }
-        found = true;
-        break 'outer;
-    }
-    found
-}
-
-// Whether the marker of a chunk container stands anywhere in the n bytes of metadata from p on.
-pub fn is_container(s: &[u8], p: u64, n: u64) -> bool
-    requires { ⌜ p + n ≤ length (now s) ⌝ }
-    ensures { λ r. ⌜ r ≡ isContainer (now (s .entry)) p n ⌝ }
-{
-    if n < 39 {
-        return false;
-    }
-    let from = p as usize;
-    let count = (n - 38) as usize;
-    stands(s, from, count, b"<DataFormat>CHUNKCONTAINER</DataFormat>")
-}
 
 // The length of a chunk's payload.
 fn chunk_size(s: &[u8], c: u64) -> u64

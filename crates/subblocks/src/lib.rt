@@ -181,15 +181,15 @@ pub fn attachment_span(d: &[u8], e: u64, s: &[u8], q: u64) -> Span
 
 // ---- the attachment's chunks
 
-// Whether the attachment is a chunk container: the metadata is searched for the marker.
+// Whether the attachment is a chunk container: the metadata declare one.
 fn has_chunks(d: &[u8], e: u64, s: &[u8], q: u64) -> bool
     requires { ⌜ Filled (now d) e (now s) q ⌝ }
     ensures { λ r. ⌜ r ≡ hasChunks (now (d .entry)) e (now (s .entry)) q ⌝ }
 {
-    masks::is_container(s, metadata_place(d, e, s, q), metadata_size(s, q))
+    markup::section::is_container(s, metadata_place(d, e, s, q), metadata_size(s, q))
 }
 
-// Refusals 17 and 18 of the attachment, whose metadata is searched only where there is one.
+// Refusals 17 and 18 of the attachment. The metadata are read only where there is one.
 pub fn judge_attachment(d: &[u8], e: u64, s: &[u8], q: u64) -> Verdict
     requires { ⌜ Filled (now d) e (now s) q ⌝ }
     ensures { λ r. ⌜ r ≡ first (attachmentRows (now (d .entry)) e (now (s .entry)) q) ⌝ }

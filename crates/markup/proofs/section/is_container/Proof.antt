@@ -62,6 +62,9 @@ returns-3 c =
     let a = k .before .before in
     none-open _ _ _ _ _ _ _ _ _ _ (a .before .before .loop .inv) (a .before .loop-test .taken) _ _ _ (told (a .item-at .ensures) (k .token2 .given .1)) (c .if2 .taken)
 
+sub-depth : tie.Need-sub-depth Inv-loop μ-loop
+sub-depth c = omega arith
+
 same-names-requires : tie.Need-same-names-requires Inv-loop μ-loop
 same-names-requires c κs =
     let k = c .before .before in
@@ -165,7 +168,7 @@ is-container-spec =
     loop-again
     (λ c. search needs)
     returns-3
-    (λ c. omega arith)
+    sub-depth
     (λ c. let l = c .before .before .before .before .before .before in omega (arith, l .loop .inv .lie .few))
     (λ c. let l = c .before .before .before .before .before .before in omega (arith, l .loop .inv .lie .few))
     (λ c. let l = c .before .before .before .before .before .before in omega (arith, l .loop .inv .lie .few))

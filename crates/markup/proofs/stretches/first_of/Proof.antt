@@ -25,6 +25,9 @@ Inv-outer s p count m i₀ i = (i ≤ count) × (anyBelow i (λ k. sameAt s (p +
 abbrev μ-outer : tie.MeasureT-outer
 μ-outer s p count m i₀ i = count - i
 
+loop-holds : tie.Need-loop-holds Inv-loop μ-loop Inv-outer μ-outer
+loop-holds c = (refl, omega arith, all-zero _)
+
 outer-again : tie.Need-outer-again Inv-loop μ-loop Inv-outer μ-outer
 unfolding sameAt
 outer-again c =
@@ -61,7 +64,7 @@ first-of-spec =
     μ-outer
     (λ c. (omega arith, any-zero _))
     (λ c. omega arith)
-    (λ c. (refl, omega arith, all-zero _))
+    loop-holds
     (λ c. omega arith)
     (λ c. omega arith)
     (λ c. omega arith)
