@@ -2,17 +2,19 @@
 use Prim.Native.Nat.{ℕ}
 use mathlib.Core.Path.{_≡_, refl}
 use mathlib.Core.List.{List, [], _∷_}
+use mathlib.Core.Option.{Option·elim}
 use mathlib.Core.Bool.{false}
 use lib.ListN.{length}
 use lib.IntN.{ℤ, pos, negsuc}
-use Rattle.format.specs.Bytes.{anyOf, anyBelow, allBelow, leastBelow, u32At, u64At, biased, sameAt, sameRange}
+use Rattle.format.specs.Bytes.{anyOf, anyBelow, allBelow, leastBelow, u32At, u64At, biased, sameAt, sameRange, partOf}
 use Rattle.format.specs.Names.{nameFile, nameDirectory, nameSubBlock, nameMetadata, nameAttachment, nameAttachmentDirectory, nameDeleted, markTile}
 use Rattle.format.specs.Checks.{rowsBelow, ifAccepted}
 use Rattle.format.specs.Segments.{allocatedSize, usedSize, room, nextSegment, lengthBad, nameBad, allocatedBad, usedBad, endBad, sizesBad, roleBad, segmentRows, walkRows, walkedFrom, walked, segmentsRows, member, walkedAs}
 use Rattle.format.specs.File.{major, filePart, directoryPosition, metadataPosition, updatePending, attachmentDirectoryPosition, namesNone, namesNoneBut0, fileRows}
 use Rattle.format.specs.Entry.{pixelType, filePosition, entryPart, compression, dimensionCount, letter, start, size, storedField, stored, nextEntry, headBad, letterBad, tooFar, isPlane, sizeBad, dimensionBad, hasLetter, repeats, closesPlane, dimensionsBad, letterIndex, letterPlace, pixelBytes, isPyramid}
 use Rattle.format.specs.SubBlock.{metadataSize, attachmentSize, dataSize, fixedPart, copyBad, subBlockBad, pixelsSize, contentsBad, metadataPlace, pixelsPlace, attachmentPlace}
-use Rattle.format.specs.Container.{isContainer}
+use Rattle.format.specs.Markup.{orNone, readFrom, readsAs}
+use Rattle.format.specs.Container.{endsWell, declares, isContainer}
 use Rattle.format.specs.Masks.{hasChunks}
 use Rattle.format.specs.Directory.{entryCount, roomEnd, tileCount, entryPlace, directoryBad, headRows, tileRows, subBlockRows, attachmentRows, entryRows, directoryRows}
 use Rattle.format.specs.Attachments.{metadataRows, attachmentsRows}
@@ -91,5 +93,5 @@ cases =
     []
 
 pub all-right : AllRight cases
-unfolding little segment fileSegment dimensionOf entryOf blockOf wide8 fileWide fileTwo twoChannels sum tab shares selectsAt meetsAt markAt countsBelow marksBelow chosenVerdict askedStart tileStart free startsThere selects rectangle meets isPyramid anyOf anyBelow allBelow leastBelow u32At u64At biased sameAt sameRange nameFile nameDirectory nameSubBlock nameMetadata nameAttachment nameAttachmentDirectory nameDeleted markTile rowsBelow allocatedSize usedSize room nextSegment lengthBad nameBad allocatedBad usedBad endBad sizesBad roleBad segmentRows walkRows walkedFrom walked segmentsRows member walkedAs major filePart directoryPosition metadataPosition updatePending attachmentDirectoryPosition namesNone namesNoneBut0 fileRows pixelType filePosition entryPart compression dimensionCount letter start size storedField stored nextEntry headBad letterBad tooFar isPlane sizeBad dimensionBad hasLetter repeats closesPlane dimensionsBad letterIndex letterPlace pixelBytes metadataSize attachmentSize dataSize fixedPart copyBad subBlockBad pixelsSize contentsBad metadataPlace pixelsPlace attachmentPlace isContainer hasChunks entryCount roomEnd tileCount entryPlace directoryBad headRows tileRows subBlockRows attachmentRows entryRows directoryRows metadataRows attachmentsRows checks
+unfolding little segment fileSegment dimensionOf entryOf blockOf wide8 fileWide fileTwo twoChannels sum tab shares selectsAt meetsAt markAt countsBelow marksBelow chosenVerdict askedStart tileStart free startsThere selects rectangle meets isPyramid anyOf anyBelow allBelow leastBelow u32At u64At biased sameAt sameRange nameFile nameDirectory nameSubBlock nameMetadata nameAttachment nameAttachmentDirectory nameDeleted markTile rowsBelow allocatedSize usedSize room nextSegment lengthBad nameBad allocatedBad usedBad endBad sizesBad roleBad segmentRows walkRows walkedFrom walked segmentsRows member walkedAs major filePart directoryPosition metadataPosition updatePending attachmentDirectoryPosition namesNone namesNoneBut0 fileRows pixelType filePosition entryPart compression dimensionCount letter start size storedField stored nextEntry headBad letterBad tooFar isPlane sizeBad dimensionBad hasLetter repeats closesPlane dimensionsBad letterIndex letterPlace pixelBytes metadataSize attachmentSize dataSize fixedPart copyBad subBlockBad pixelsSize contentsBad metadataPlace pixelsPlace attachmentPlace partOf Option·elim orNone readFrom readsAs endsWell declares isContainer hasChunks entryCount roomEnd tileCount entryPlace directoryBad headRows tileRows subBlockRows attachmentRows entryRows directoryRows metadataRows attachmentsRows checks
 all-right = (refl, (refl, (refl, (refl, (refl, (refl, (refl, (refl, (refl, (refl, (refl, tt)))))))))))
