@@ -11,7 +11,8 @@ use borrow.Author.Tests.{eq-eqb, ne-eqb}
 use lib.ListN.{length, getD, drop}
 use lib.Dec.{eqb}
 use Rattle.format.specs.Bytes.{anyOf}
-use Rattle.format.specs.Markup.{text, comment, instruction, charData, opener, closer, white, nameByte, textByte, beginsName, begins, front, behind, tagAt, endTagAt, skipAt, markAt, itemAt, Found}
+use Rattle.format.specs.Markup.{text, comment, instruction, charData, opener, closer, white, nameByte, textByte, beginsName, begins, front, behind}
+use Rattle.format.specs.Markup.{tagAt, endTagAt, skipAt, markAt, itemAt, Found}
 use Rattle.markup.specs.Stretches.{stretch, Passed}
 use Rattle.markup.specs.Tokens.{Stands, skippedBehind, declarationAt}
 use Rattle.markup.specs.declared.Token.{Token}
@@ -106,7 +107,8 @@ module _ (bs : List ℕ) (at end : ℕ) (less : at < end) (fits : end ≤ length
     two : stretch bs at end ≡ 60 ∷ b ∷ stretch bs (at + 2) end
     two = let f : at + 1 + 1 ≡ at + 2 = omega arith in mark ∙ rw (e, stretch-one bs (at + 1) end (omega arith) fits, f)
 
-    pub mark-declaration : (t : Token) → b ≡ 33 → Stands bs (at + 2) end (declarationAt (stretch bs (at + 2) end)) t → Stands bs at end (itemAt (stretch bs at end)) t
+    pub mark-declaration : (t : Token) → b ≡ 33 → Stands bs (at + 2) end (declarationAt (stretch bs (at + 2) end)) t
+        → Stands bs at end (itemAt (stretch bs at end)) t
     mark-declaration t z s = rw (two, z, item-declaration) (stands-from bs at (at + 2) end _ t (omega arith) s)
 
     pub mark-instruction : (t : Token) → b ≡ 63 → Stands bs (at + 2) end (skippedBehind (63 ∷ 62 ∷ []) (stretch bs (at + 2) end)) t
@@ -132,7 +134,8 @@ front-one b xs h = rw (ne-eqb b 60 h)
 front-some : (b : ℕ) (xs : List ℕ) → (b ≡ 60 → ⊥) → front textByte (b ∷ xs) ≡ [] → ⊥
 front-some b xs h e = let l : length (b ∷ front textByte xs) ≡ 0 = ap length (sym (front-one b xs h) ∙ e) in absurd (omega (arith, l))
 
-module _ (bs : List ℕ) (at end next b : ℕ) (p : Passed textByte bs at end next) (less : at < end) (fits : end ≤ length bs) (e : b ≡ getD bs at 0) (h : b ≡ 60 → ⊥) where
+module _ (bs : List ℕ) (at end next b : ℕ) (p : Passed textByte bs at end next)
+    (less : at < end) (fits : end ≤ length bs) (e : b ≡ getD bs at 0) (h : b ≡ 60 → ⊥) where
   first-byte : stretch bs at end ≡ b ∷ stretch bs (at + 1) end
   first-byte = rw e (stretch-one bs at end less fits)
 

@@ -42,7 +42,8 @@ module _ (bs : List ℕ) (at end stop : ℕ) (p : Passed nameByte bs at end stop
   unfolding tagAt
   tag-unnamed h = record { says = rw (p .before, ← e, not-true named h); ahead = tt }
 
-  pub tag-named : (t : Token) → not named ≡ false → Stands bs at end (tagBehind (stretch bs at stop) (stretch bs stop end)) t → Stands bs at end (tagAt (stretch bs at end)) t
+  pub tag-named : (t : Token) → not named ≡ false → Stands bs at end (tagBehind (stretch bs at stop) (stretch bs stop end)) t
+      → Stands bs at end (tagAt (stretch bs at end)) t
   unfolding tagAt tagBehind
   tag-named t h s = rw (p .before, ← e, not-false named h, p .rest) s
 

@@ -7,19 +7,19 @@ use mathlib.Core.Option.{Option, none, some, Option·elim}
 use native.Mathlib.Numerals.{add-one}
 use native.Mathlib.Omega.{arith}
 use borrow.Author.Tests.{lt-ltb, le-ltb, not-true, not-false}
-use lib.ListN.{length, getD, set, replicate, length-replicate}
+use lib.ListN.{length, getD, set, replicate}
 use lib.Dec.{eqb, ltb}
 use Rattle.format.specs.Bytes.{partOf}
-use Rattle.format.specs.Markup.{Item, start, close, empty, text, skipped, Found, itemAt, oneMore, readsAs}
+use Rattle.format.specs.Markup.{Item, start, close, empty, text, skipped, itemAt, oneMore, readsAs}
 use Rattle.format.specs.Container.{sameBytes, startStage, textStage, endsWell, declares, isContainer}
 use Rattle.format.proofs.Reading.{reads-step, reads-nothing}
 use Rattle.markup.specs.Stretches.{stretch}
-use Rattle.markup.specs.Tokens.{Stands}
+use Rattle.markup.specs.Tokens.{Stands, foundBy}
 use Rattle.markup.specs.Open.{openNames, Lie}
 use Rattle.markup.specs.declared.Token.{Token}
 use Rattle.markup.specs.declared.Token.the-variants.{Broken, Start, Close, Empty, Text, Skipped}
 use Rattle.markup.proofs.Stretching.{stretch-none, stretch-one}
-use Rattle.markup.proofs.Opening.{names-count, opened-names, lie-opened}
+use Rattle.markup.proofs.Opening.{names-count, lie-none, opened-names, lie-opened, lie-closed}
 
 -- ---- what is left
 
@@ -80,7 +80,8 @@ module _ (found : Bool) (stage : ℕ) (names : List (List ℕ)) (rest : List ℕ
 
 -- an end tag
 module _ (found : Bool) (stage : ℕ) (name rest : List ℕ) where
-  with-closed : (n : List ℕ) (names : List (List ℕ)) → sameBytes name n ≡ true → With found stage (n ∷ names) rest (close name) ≡ decides (found || eqb stage 2) 0 names rest
+  with-closed : (n : List ℕ) (names : List (List ℕ)) → sameBytes name n ≡ true
+      → With found stage (n ∷ names) rest (close name) ≡ decides (found || eqb stage 2) 0 names rest
   unfolding decides endsWell
   with-closed n names e = like (readsAs rest) _ _ (λ items. rw e)
 
@@ -94,10 +95,6 @@ module _ (found : Bool) (stage : ℕ) (name rest : List ℕ) where
 
 -- ---- the loop
 
--- what a token says is said of the variant that it is
-pub told : {bs : List ℕ} {at end : ℕ} {f : Found} {t u : Token} → Stands bs at end f t → t ≡ u → Stands bs at end f u
-told s e = rw (← e) s
-
 pub record Walking (bs : List ℕ) (p n end : ℕ) (places lengths : List ℕ) (depth stage : ℕ) (found : Bool) (at : ℕ) : Type 0 where
   pub to : at ≤ end
   pub fits : end ≤ length bs
@@ -109,82 +106,98 @@ unfolding isContainer declares decides stretch
 walking-start bs p n h = record {
   to = omega arith;
   fits = h;
-  lie = record { places-room = length-replicate {A = ℕ} 64 0; lengths-room = length-replicate {A = ℕ} 64 0; few = omega arith; each = λ k z. absurd (omega arith) };
+  lie = lie-none bs;
   same = let e : p + n - p ≡ n = omega arith in rw e;
 }
 
-module _ (bs : List ℕ) (p n end : ℕ) (places lengths : List ℕ) (depth stage : ℕ) (found : Bool) (at : ℕ) where
-  module _ (w : Walking bs p n end places lengths depth stage found at) (less : at < end) where
-    pub broken : Stands bs at end (itemAt (stretch bs at end)) Broken → false ≡ isContainer bs p n
-    broken s =
-        let e = stretch-one bs at end less (w .fits) in
-        sym (w .same ∙ rw e (decides-broken found stage _ _ _ (rw (← e) (s .says))))
+-- the token that stands at the loop's place, before its end
+pub record Told (bs : List ℕ) (p n end : ℕ) (places lengths : List ℕ) (depth stage : ℕ) (found : Bool) (at : ℕ) (t : Token) : Type 0 where
+  pub walking : Walking bs p n end places lengths depth stage found at
+  pub less : at < end
+  pub stands : Stands bs at end (itemAt (stretch bs at end)) t
 
-    item : (i : Item) (rest : List ℕ) → itemAt (stretch bs at end) ≡ some (i, rest) → isContainer bs p n ≡ With found stage (openNames bs places lengths depth) rest i
-    item i rest s =
-        let e = stretch-one bs at end less (w .fits) in
-        w .same ∙ rw e (decides-item found stage _ _ _ i rest (rw (← e) s))
+module _ {bs : List ℕ} {p n end : ℕ} {places lengths : List ℕ} {depth stage : ℕ} {found : Bool} {at : ℕ} where
+  -- it is told of the variant that the token is
+  pub told : {t u : Token} → Walking bs p n end places lengths depth stage found at → at < end → Stands bs at end (itemAt (stretch bs at end)) t → t ≡ u
+      → Told bs p n end places lengths depth stage found at u
+  told w l s e = record { walking = w; less = l; stands = rw (← e) s }
 
-    -- a start tag
-    module _ (from size next : ℕ) (s : Stands bs at end (itemAt (stretch bs at end)) (Start from size next)) where
-      pub too-many : depth ≡ 64 → false ≡ isContainer bs p n
-      too-many h =
-          sym (item _ _ (s .says) ∙ with-many found stage _ _ _ (rw (names-count bs places lengths depth) (omega (arith, h))))
+  pub broken : Told bs p n end places lengths depth stage found at Broken → false ≡ isContainer bs p n
+  broken r =
+      let e = stretch-one bs at end (r .less) (r .walking .fits) in
+      sym (r .walking .same ∙ rw e (decides-broken found stage _ _ _ (rw (← e) (r .stands .says))))
 
-      pub lie-start : (depth ≡ 64 → ⊥) → Lie bs (set places depth from) (set lengths depth size) (depth + 1)
-      lie-start h = rw add-one (lie-opened bs places lengths depth from size (w .lie) (omega (arith, w .lie .few)) (omega (arith, s .ahead .0, w .fits)))
+  -- what is left is an item and the rest
+  item : {t : Token} (i : Item) (rest : List ℕ) → Told bs p n end places lengths depth stage found at t → foundBy bs end t ≡ some (i, rest)
+      → isContainer bs p n ≡ With found stage (openNames bs places lengths depth) rest i
+  item i rest r f =
+      let e = stretch-one bs at end (r .less) (r .walking .fits) in
+      r .walking .same ∙ rw e (decides-item found stage _ _ _ i rest (rw (← e) (r .stands .says ∙ f)))
 
-      pub walking-opened : (stage′ : ℕ) → (depth ≡ 64 → ⊥) → stage′ ≡ startStage (openNames bs (set places depth from) (set lengths depth size) (depth + 1))
+  -- a start tag
+  module _ {from size next : ℕ} (r : Told bs p n end places lengths depth stage found at (Start from size next)) where
+    pub too-many : depth ≡ 64 → false ≡ isContainer bs p n
+    too-many h = sym (item _ _ r refl ∙ with-many found stage _ _ _ (rw (names-count bs places lengths depth) (omega (arith, h))))
+
+    module _ (h : depth ≡ 64 → ⊥) where
+      room : depth < 64
+      room = omega (arith, r .walking .lie .few)
+
+      pub lie-start : Lie bs (set places depth from) (set lengths depth size) (depth + 1)
+      lie-start = rw add-one (lie-opened bs places lengths depth from size (r .walking .lie) room (omega (arith, r .stands .ahead .0, r .walking .fits)))
+
+      pub walking-opened : {stage′ : ℕ} → stage′ ≡ startStage (openNames bs (set places depth from) (set lengths depth size) (depth + 1))
           → Walking bs p n end (set places depth from) (set lengths depth size) (depth + 1) stage′ found next
-      walking-opened stage′ h e =
-          let o = opened-names bs places lengths depth from size (w .lie) (omega (arith, w .lie .few)) in
-          record {
-            to = s .ahead .2;
-            fits = w .fits;
-            lie = lie-start h;
-            same = item _ _ (s .says) ∙ with-start found stage _ _ _ (rw (names-count bs places lengths depth) (omega (arith, w .lie .few))) ∙ rw (e, add-one, o);
-          }
+      walking-opened e =
+          let o = opened-names bs places lengths depth from size (r .walking .lie) room in
+          let c = with-start found stage (openNames bs places lengths depth) (stretch bs next end) _ (rw (names-count bs places lengths depth) room) in
+          record { to = r .stands .ahead .2; fits = r .walking .fits; lie = lie-start; same = item _ _ r refl ∙ c ∙ rw (e, add-one, o) }
 
-    -- an end tag
-    module _ (from size next : ℕ) (s : Stands bs at end (itemAt (stretch bs at end)) (Close from size next)) where
-      pub none-open : depth ≡ 0 → false ≡ isContainer bs p n
-      none-open h = sym (item _ _ (s .says) ∙ rw h (with-none found stage _ _))
+  -- an end tag
+  module _ {from size next : ℕ} (r : Told bs p n end places lengths depth stage found at (Close from size next)) where
+    pub none-open : depth ≡ 0 → false ≡ isContainer bs p n
+    none-open h = sym (item _ _ r refl ∙ rw h (with-none found stage _ _))
 
-      shut : (k : ℕ) → depth ≡ suc k → sameBytes (partOf bs from size) (partOf bs (getD places k 0) (getD lengths k 0)) ≡ true
-          → isContainer bs p n ≡ decides (found || eqb stage 2) 0 (openNames bs places lengths k) (stretch bs next end)
-      shut k d x = item _ _ (s .says) ∙ rw d (with-closed found stage _ _ _ _ x)
+    -- its name is compared with that of the k-th open tag, which is the innermost
+    pub names-lie : (depth ≡ 0 → ⊥)
+        → (from + size ≤ length bs) × (getD places (depth - 1) 0 + getD lengths (depth - 1) 0 ≤ length bs)
+    names-lie h = (omega (arith, r .stands .ahead .0, r .walking .fits), r .walking .lie .each (depth - 1) (omega arith))
 
-      module _ (r : Bool) (h : depth ≡ 0 → ⊥)
-          (e : r ≡ sameBytes (partOf bs from size) (partOf bs (getD places (depth - 1) 0) (getD lengths (depth - 1) 0))) where
-        deep : depth ≡ suc (depth - 1)
-        deep = omega arith
+    shut : (k : ℕ) → depth ≡ suc k → sameBytes (partOf bs from size) (partOf bs (getD places k 0) (getD lengths k 0)) ≡ true
+        → isContainer bs p n ≡ decides (found || eqb stage 2) 0 (openNames bs places lengths k) (stretch bs next end)
+    shut k d x = item _ _ r refl ∙ rw d (with-closed found stage _ _ _ _ x)
 
-        pub other-name : not r ≡ true → false ≡ isContainer bs p n
-        other-name x =
-            sym (item _ _ (s .says) ∙ rw deep (with-other found stage _ _ _ _ (sym e ∙ not-true r x)))
+    module _ {same : Bool} (h : depth ≡ 0 → ⊥) (e : same ≡ sameBytes (partOf bs from size) (partOf bs (getD places (depth - 1) 0) (getD lengths (depth - 1) 0))) where
+      deep : depth ≡ suc (depth - 1)
+      deep = omega arith
 
-        pub walking-closed : (found′ : Bool) → not r ≡ false → found′ ≡ (found || eqb stage 2) → Walking bs p n end places lengths (depth - 1) 0 found′ next
-        walking-closed found′ x f = record {
-          to = s .ahead .2;
-          fits = w .fits;
-          lie = record {
-            places-room = w .lie .places-room;
-            lengths-room = w .lie .lengths-room;
-            few = omega (arith, w .lie .few);
-            each = λ k z. w .lie .each k (omega arith);
-          };
-          same = rw f (shut (depth - 1) deep (sym e ∙ not-false r x));
-        }
+      pub other-name : not same ≡ true → false ≡ isContainer bs p n
+      other-name x = sym (item _ _ r refl ∙ rw deep (with-other found stage _ _ _ _ (sym e ∙ not-true same x)))
 
-    pub walking-empty : (next : ℕ) → Stands bs at end (itemAt (stretch bs at end)) (Empty next) → Walking bs p n end places lengths depth 0 found next
-    walking-empty next s = record { to = s .ahead .1; fits = w .fits; lie = w .lie; same = item _ _ (s .says) ∙ with-empty found stage _ _ }
+      pub walking-closed : {found′ : Bool} → not same ≡ false → found′ ≡ (found || eqb stage 2) → Walking bs p n end places lengths (depth - 1) 0 found′ next
+      walking-closed x f = record {
+        to = r .stands .ahead .2;
+        fits = r .walking .fits;
+        lie = lie-closed bs places lengths depth (r .walking .lie);
+        same = rw f (shut (depth - 1) deep (sym e ∙ not-false same x));
+      }
 
-    pub walking-skipped : (next : ℕ) → Stands bs at end (itemAt (stretch bs at end)) (Skipped next) → Walking bs p n end places lengths depth 0 found next
-    walking-skipped next s = record { to = s .ahead .1; fits = w .fits; lie = w .lie; same = item _ _ (s .says) ∙ with-skipped found stage _ _ }
+  -- what opens and closes nothing
+  pub walking-empty : {next : ℕ} → Told bs p n end places lengths depth stage found at (Empty next) → Walking bs p n end places lengths depth 0 found next
+  walking-empty r =
+      record { to = r .stands .ahead .1; fits = r .walking .fits; lie = r .walking .lie; same = item _ _ r refl ∙ with-empty found stage _ _ }
 
-    pub walking-text : (from next stage′ : ℕ) → Stands bs at end (itemAt (stretch bs at end)) (Text from next) → stage′ ≡ textStage stage (stretch bs from next)
-        → Walking bs p n end places lengths depth stage′ found next
-    walking-text from next stage′ s e = record { to = s .ahead .2; fits = w .fits; lie = w .lie; same = item _ _ (s .says) ∙ with-text found stage _ _ _ ∙ rw e }
+  pub walking-skipped : {next : ℕ} → Told bs p n end places lengths depth stage found at (Skipped next) → Walking bs p n end places lengths depth 0 found next
+  walking-skipped r =
+      record { to = r .stands .ahead .1; fits = r .walking .fits; lie = r .walking .lie; same = item _ _ r refl ∙ with-skipped found stage _ _ }
+
+  module _ {from next : ℕ} (r : Told bs p n end places lengths depth stage found at (Text from next)) where
+    pub text-lies : (from ≤ next) × (next ≤ length bs)
+    text-lies = (r .stands .ahead .0, omega (arith, r .stands .ahead .2, r .walking .fits))
+
+    pub walking-text : {stage′ : ℕ} → stage′ ≡ textStage stage (stretch bs from next) → Walking bs p n end places lengths depth stage′ found next
+    walking-text e =
+        record { to = r .stands .ahead .2; fits = r .walking .fits; lie = r .walking .lie; same = item _ _ r refl ∙ with-text found stage _ _ _ ∙ rw e }
 
   -- nothing is left
   module _ (w : Walking bs p n end places lengths depth stage found at) (done : end ≤ at) where

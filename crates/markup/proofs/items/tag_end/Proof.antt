@@ -20,11 +20,12 @@ returns-2 c = search tag-broken
 
 loop-again : tie.Need-loop-again Inv-loop μ-loop
 loop-again c =
-    let b = c .before .before .before .before .before in
+    let first = c .before .before .before .before in
+    let second = c .before .before in
+    let b = first .before in
     let l = b .before .before in
     tagging-next _ _ _ _ _ _ (l .loop .inv) (omega arith) _ (b .byte-at .ensures .0) (omega arith) _ _ _
-    (c .before .before .before .before .is-outside .ensures) (c .before .before .is-outside2 .ensures) (c .before .before .before .if1 .left) (c .before .if2 .left)
-    (c .quote-after .ensures)
+    (first .is-outside .ensures) (second .is-outside2 .ensures) (c .before .before .before .if1 .left) (c .before .if2 .left) (c .quote-after .ensures)
 
 pub tag-end-spec : {M : Type 1} → statement M
 tag-end-spec =

@@ -2,8 +2,8 @@
 use Prim.Native.Nat.{_-_}
 use borrow.Author.Needs.{needs}
 use native.Mathlib.Omega.{arith}
-use Rattle.markup.proofs.Walking.{Walking, told, walking-start, broken, too-many, lie-start, walking-opened, none-open, other-name, walking-closed}
-use Rattle.markup.proofs.Walking.{walking-empty, walking-text, walking-skipped, still-open, all-closed}
+use Rattle.markup.proofs.Walking.{Walking, walking-start, told, broken, too-many, lie-start, walking-opened, none-open, names-lie, other-name}
+use Rattle.markup.proofs.Walking.{walking-closed, walking-empty, walking-text, text-lies, walking-skipped, still-open, all-closed}
 use Rattle.markup.proofs.section.is_container.Statement.{statement}
 use Rattle.markup.proofs.section.is_container.Tie as tie
 
@@ -20,7 +20,7 @@ loop-holds c = search walking-start
 returns : tie.Need-returns Inv-loop μ-loop
 returns c =
     let a = c .before .before in
-    broken _ _ _ _ _ _ _ _ _ _ (a .before .before .loop .inv) (a .before .loop-test .taken) (told (a .item-at .ensures) (search needs))
+    broken (told (a .before .before .loop .inv) (a .before .loop-test .taken) (a .item-at .ensures) (search needs))
 
 -- ---- a start tag
 
@@ -28,31 +28,32 @@ returns-2 : tie.Need-returns-2 Inv-loop μ-loop
 returns-2 c =
     let k = c .before .before in
     let a = k .before .before in
-    too-many _ _ _ _ _ _ _ _ _ _ (a .before .before .loop .inv) (a .before .loop-test .taken) _ _ _ (told (a .item-at .ensures) (k .token .given .1)) (c .if1 .taken)
+    too-many (told (a .before .before .loop .inv) (a .before .loop-test .taken) (a .item-at .ensures) (k .token .given .1)) (c .if1 .taken)
 
 room : tie.Need-array-write-places Inv-loop μ-loop
 room c = let l = c .before .before .before .before .before .before in omega (arith, l .loop .inv .lie .few)
 
 start-stage-requires : tie.Need-start-stage-requires Inv-loop μ-loop
 start-stage-requires c κs =
-    let k = c .before .before .before .before in
+    let e = c .before .before in
+    let k = e .before .before in
     let a = k .before .before in
-    lie-start _ _ _ _ _ _ _ _ _ _ (a .before .before .loop .inv) (a .before .loop-test .taken) _ _ _ (told (a .item-at .ensures) (k .token .given .1)) (c .before .before .if1 .left)
+    lie-start (told (a .before .before .loop .inv) (a .before .loop-test .taken) (a .item-at .ensures) (k .token .given .1)) (e .if1 .left)
 
 loop-less : tie.Need-loop-less Inv-loop μ-loop
 loop-less c =
     let k = c .before .before .before .before .before in
     let a = k .before .before in
-    let s = told (a .item-at .ensures) (k .token .given .1) in
-    omega (arith, s .ahead .1)
+    let r = told (a .before .before .loop .inv) (a .before .loop-test .taken) (a .item-at .ensures) (k .token .given .1) in
+    omega (arith, r .stands .ahead .1)
 
 loop-again : tie.Need-loop-again Inv-loop μ-loop
 loop-again c =
     let e = c .before .before .before in
     let k = e .before .before in
     let a = k .before .before in
-    walking-opened _ _ _ _ _ _ _ _ _ _ (a .before .before .loop .inv) (a .before .loop-test .taken) _ _ _ (told (a .item-at .ensures) (k .token .given .1)) _ (e .if1 .left)
-    (c .start-stage .ensures)
+    let r = told (a .before .before .loop .inv) (a .before .loop-test .taken) (a .item-at .ensures) (k .token .given .1) in
+    walking-opened r (e .if1 .left) (c .start-stage .ensures)
 
 -- ---- an end tag
 
@@ -60,7 +61,7 @@ returns-3 : tie.Need-returns-3 Inv-loop μ-loop
 returns-3 c =
     let k = c .before .before in
     let a = k .before .before in
-    none-open _ _ _ _ _ _ _ _ _ _ (a .before .before .loop .inv) (a .before .loop-test .taken) _ _ _ (told (a .item-at .ensures) (k .token2 .given .1)) (c .if2 .taken)
+    none-open (told (a .before .before .loop .inv) (a .before .loop-test .taken) (a .item-at .ensures) (k .token2 .given .1)) (c .if2 .taken)
 
 sub-depth : tie.Need-sub-depth Inv-loop μ-loop
 sub-depth c = omega arith
@@ -69,73 +70,73 @@ same-names-requires : tie.Need-same-names-requires Inv-loop μ-loop
 same-names-requires c κs =
     let k = c .before .before in
     let a = k .before .before in
-    let w = a .before .before .loop .inv in
-    let s = told (a .item-at .ensures) (k .token2 .given .1) in
-    (omega (arith, s .ahead .0, w .fits), w .lie .each _ (omega arith))
+    names-lie (told (a .before .before .loop .inv) (a .before .loop-test .taken) (a .item-at .ensures) (k .token2 .given .1)) (c .if2 .left)
 
 returns-4 : tie.Need-returns-4 Inv-loop μ-loop
 returns-4 c =
     let e = c .before .before in
     let k = e .before .before in
     let a = k .before .before in
-    other-name _ _ _ _ _ _ _ _ _ _ (a .before .before .loop .inv) (a .before .loop-test .taken) _ _ _ (told (a .item-at .ensures) (k .token2 .given .1)) _ (e .if2 .left)
-    (c .before .same-names .ensures) (c .if3 .taken)
+    let r = told (a .before .before .loop .inv) (a .before .loop-test .taken) (a .item-at .ensures) (k .token2 .given .1) in
+    other-name r (e .if2 .left) (c .before .same-names .ensures) (c .if3 .taken)
 
 loop-less-2 : tie.Need-loop-less-2 Inv-loop μ-loop
 loop-less-2 c =
     let k = c .before .before .before .before .before in
     let a = k .before .before in
-    let s = told (a .item-at .ensures) (k .token2 .given .1) in
-    omega (arith, s .ahead .1)
+    let r = told (a .before .before .loop .inv) (a .before .loop-test .taken) (a .item-at .ensures) (k .token2 .given .1) in
+    omega (arith, r .stands .ahead .1)
 
 loop-again-2 : tie.Need-loop-again-2 Inv-loop μ-loop
 loop-again-2 c =
     let e = c .before .before .before in
     let k = e .before .before in
     let a = k .before .before in
-    walking-closed _ _ _ _ _ _ _ _ _ _ (a .before .before .loop .inv) (a .before .loop-test .taken) _ _ _ (told (a .item-at .ensures) (k .token2 .given .1)) _ (e .if2 .left)
-    (c .before .before .same-names .ensures) _ (c .before .if3 .left) (c .found-after .ensures)
+    let r = told (a .before .before .loop .inv) (a .before .loop-test .taken) (a .item-at .ensures) (k .token2 .given .1) in
+    walking-closed r (e .if2 .left) (c .before .before .same-names .ensures) (c .before .if3 .left) (c .found-after .ensures)
 
 -- ---- what opens and closes nothing
 
 loop-less-3 : tie.Need-loop-less-3 Inv-loop μ-loop
 loop-less-3 c =
     let a = c .before .before .before in
-    let s = told (a .item-at .ensures) (c .before .token3 .given .1) in
-    omega (arith, s .ahead .0)
+    let r = told (a .before .before .loop .inv) (a .before .loop-test .taken) (a .item-at .ensures) (c .before .token3 .given .1) in
+    omega (arith, r .stands .ahead .0)
 
 loop-again-3 : tie.Need-loop-again-3 Inv-loop μ-loop
 loop-again-3 c =
     let a = c .before .before .before in
-    walking-empty _ _ _ _ _ _ _ _ _ _ (a .before .before .loop .inv) (a .before .loop-test .taken) _ (told (a .item-at .ensures) (c .before .token3 .given .1))
+    walking-empty (told (a .before .before .loop .inv) (a .before .loop-test .taken) (a .item-at .ensures) (c .before .token3 .given .1))
 
 text-stage-requires : tie.Need-text-stage-requires Inv-loop μ-loop
 text-stage-requires c κs =
     let a = c .before .before .before in
-    let s = told (a .item-at .ensures) (c .before .token4 .given .1) in
-    (s .ahead .0, omega (arith, s .ahead .2, a .before .before .loop .inv .fits))
+    text-lies (told (a .before .before .loop .inv) (a .before .loop-test .taken) (a .item-at .ensures) (c .before .token4 .given .1))
 
 loop-less-4 : tie.Need-loop-less-4 Inv-loop μ-loop
 loop-less-4 c =
-    let a = c .before .before .before .before in
-    let s = told (a .item-at .ensures) (c .before .before .token4 .given .1) in
-    omega (arith, s .ahead .1)
+    let k = c .before .before in
+    let a = k .before .before in
+    let r = told (a .before .before .loop .inv) (a .before .loop-test .taken) (a .item-at .ensures) (k .token4 .given .1) in
+    omega (arith, r .stands .ahead .1)
 
 loop-again-4 : tie.Need-loop-again-4 Inv-loop μ-loop
 loop-again-4 c =
-    let a = c .before .before .before .before in
-    walking-text _ _ _ _ _ _ _ _ _ _ (a .before .before .loop .inv) (a .before .loop-test .taken) _ _ _ (told (a .item-at .ensures) (c .before .before .token4 .given .1)) (c .text-stage .ensures)
+    let k = c .before .before in
+    let a = k .before .before in
+    let r = told (a .before .before .loop .inv) (a .before .loop-test .taken) (a .item-at .ensures) (k .token4 .given .1) in
+    walking-text r (c .text-stage .ensures)
 
 loop-less-5 : tie.Need-loop-less-5 Inv-loop μ-loop
 loop-less-5 c =
     let a = c .before .before .before in
-    let s = told (a .item-at .ensures) (c .before .token5 .given .1) in
-    omega (arith, s .ahead .0)
+    let r = told (a .before .before .loop .inv) (a .before .loop-test .taken) (a .item-at .ensures) (c .before .token5 .given .1) in
+    omega (arith, r .stands .ahead .0)
 
 loop-again-5 : tie.Need-loop-again-5 Inv-loop μ-loop
 loop-again-5 c =
     let a = c .before .before .before in
-    walking-skipped _ _ _ _ _ _ _ _ _ _ (a .before .before .loop .inv) (a .before .loop-test .taken) _ (told (a .item-at .ensures) (c .before .token5 .given .1))
+    walking-skipped (told (a .before .before .loop .inv) (a .before .loop-test .taken) (a .item-at .ensures) (c .before .token5 .given .1))
 
 -- ---- the end
 
