@@ -60,16 +60,19 @@ pub record Name (name : List ℕ) : Type 0 where
   pub named : beginsName name ≡ true
   pub whole : every nameByte name ≡ true
 
--- what stands between the name of a start tag or an empty-element tag and its `>`: bytes outside quotes, and quoted stretches, by the quote and what it encloses
+-- what stands between a start tag's name, or an empty-element tag's, and its `>`: bytes outside quotes, and quoted stretches, by the quote and what
+-- it encloses
 pub data Inside : Type 0 where
   bare : ℕ → Inside
   quoted : ℕ → List ℕ → Inside
 
+-- as they are written
 abbrev pub spelled : List Inside → List ℕ
 spelled [] = []
 spelled (bare b ∷ rest) = b ∷ spelled rest
 spelled (quoted q bs ∷ rest) = q ∷ bs ++ (q ∷ spelled rest)
 
+-- a byte outside quotes is such a byte, and a quote encloses no quote of its kind
 abbrev pub Quoting : List Inside → Type 0
 Quoting [] = Unit
 Quoting (bare b ∷ rest) = (bareByte b ≡ true) × Quoting rest

@@ -167,7 +167,8 @@ module _ {bs : List ℕ} {p n end : ℕ} {places lengths : List ℕ} {depth stag
         → isContainer bs p n ≡ decides (found || eqb stage 2) 0 (openNames bs places lengths k) (stretch bs next end)
     shut k d x = item _ _ r refl ∙ rw d (with-closed found stage _ _ _ _ x)
 
-    module _ {same : Bool} (h : depth ≡ 0 → ⊥) (e : same ≡ sameBytes (partOf bs from size) (partOf bs (getD places (depth - 1) 0) (getD lengths (depth - 1) 0))) where
+    module _ {same : Bool} (h : depth ≡ 0 → ⊥)
+        (e : same ≡ sameBytes (partOf bs from size) (partOf bs (getD places (depth - 1) 0) (getD lengths (depth - 1) 0))) where
       deep : depth ≡ suc (depth - 1)
       deep = omega arith
 
