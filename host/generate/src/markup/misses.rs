@@ -13,20 +13,16 @@ pub struct Miss {
 }
 
 impl Miss {
-    /// Metadata that miss so.
+    /// Metadata that miss so, with content beside.
     pub fn draw(&self, random: &mut Random) -> Vec<Node> {
-        let mut all = outside(random);
+        let mut all = content(random, 2);
         all.extend((self.make)(random));
-        all.extend(outside(random));
+        all.extend(content(random, 2));
         all
     }
 }
 
-/// Content beside the miss. It has the section nowhere, since it is not deep enough for one.
-fn outside(random: &mut Random) -> Vec<Node> {
-    content(random, 2)
-}
-
+/// All misses.
 pub const MISSES: &[Miss] = &[
     Miss {
         name: "the marker alone",
