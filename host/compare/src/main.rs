@@ -58,6 +58,7 @@ fn run(options: &Options) -> Report {
     if !options.replay {
         limits::check_longest(&mut report);
         metadata::check_long(&mut report);
+        metadata::check_short(&mut report);
         types::check(&mut report);
     }
     report

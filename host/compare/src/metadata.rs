@@ -51,6 +51,31 @@ fn check_foretold(
     }
 }
 
+/// Every string of up to four of these bytes, at each of these places in the section: once in a run.
+const SHORT: &[u8; 12] = b"<>/!?-[a\"'= ";
+const SHORT_PLACES: [usize; 3] = [
+    0,
+    "<METADATA><AttachmentSchema><DataFormat".len(),
+    generate::SECTION.len(),
+];
+
+/// All of them.
+pub fn check_short(report: &mut Report) {
+    let mut file = OneTile::new();
+    for length in 1..=4 {
+        for number in 0..SHORT.len().pow(length) {
+            let digit = |k| SHORT[number / SHORT.len().pow(k) % SHORT.len()];
+            let part: Vec<u8> = (0..length).map(digit).collect();
+            for at in SHORT_PLACES {
+                let (before, behind) = generate::SECTION.split_at(at);
+                let metadata = [before, &part, behind].concat();
+                let declares = check_judged("every short string", &metadata, &mut file, report);
+                report.short.note(declares);
+            }
+        }
+    }
+}
+
 /// Long metadata of one kind, and deep ones, each once in a run.
 pub fn check_long(report: &mut Report) {
     let mut file = OneTile::new();

@@ -106,7 +106,9 @@ pub struct Report {
     pub tokens: Declared,
     /// Metadata with a foretold answer.
     pub foretold: Declared,
-    /// Of both, those with a mask.
+    /// The section with a short string in it.
+    pub short: Declared,
+    /// Of the drawn ones and the foretold, those with a mask.
     pub masked: u64,
     /// Freedoms that sound files take.
     pub freedoms: Tally,
@@ -157,6 +159,7 @@ impl Report {
             chosen: 0,
             tokens: Declared::default(),
             foretold: Declared::default(),
+            short: Declared::default(),
             masked: 0,
             freedoms: Tally::new("Files that take a freedom", freedoms()),
             metadata_names: Tally::new("Metadata by what they hold", metadata_names()),
@@ -304,6 +307,7 @@ impl fmt::Display for Report {
             "{} of both with a mask through both composers, masks on",
             self.masked
         )?;
+        writeln!(f, "the section with every short string: {}", self.short)?;
         if !self.enough_declared() {
             writeln!(
                 f,
