@@ -1,7 +1,8 @@
-"""The listing of paper 01, read straight from its text and apart from the crates.
+"""The listing of papers 01 and 02, read straight from their text and apart from the crates.
 
-As a program it lists standard input. It is plain on purpose: the paper's sentences in their order.
+As a program it lists standard input. It is plain on purpose: the papers' sentences in their order.
 """
+import re
 import struct
 import sys
 
@@ -9,9 +10,41 @@ NAMES = [b"ZISRAWFILE", b"ZISRAWDIRECTORY", b"ZISRAWSUBBLOCK", b"ZISRAWMETADATA"
          b"ZISRAWATTDIR", b"DELETED"]
 FILE, DIRECTORY, SUBBLOCK, METADATA, ATTACH, ATTDIR, DELETED = NAMES
 BYTES_A_PIXEL = {0: 1, 1: 2, 2: 4, 3: 3, 4: 6, 8: 12, 9: 4, 10: 8, 11: 24}
-MARKER = b"<DataFormat>CHUNKCONTAINER</DataFormat>"
 MASK = bytes.fromhex("67EAE3CBFC5B2B49A16AECE378031448")
 HEADER = 32
+
+# What metadata consist of, by paper 02, Req 01; no two of these begin alike. A name is taken whole, since what ends it
+# must follow.
+NAME = rb"([^\t\n\r />!<][^\t\n\r /><]*)(?=[\t\n\r />])"
+TEXT = re.compile(rb"[^<]+")
+SKIPPED = re.compile(rb"<!--.*?-->|<\?.*?\?>|<!\[CDATA\[.*?\]\]>", re.DOTALL)
+START_TAG = re.compile(rb"<(?!\?)" + NAME + rb"""(?:[^"'<>]|"[^"]*"|'[^']*')*>""")
+END_TAG = re.compile(rb"</" + NAME + rb"[\t\n\r ]*>")
+SECTION = [b"METADATA", b"AttachmentSchema", b"DataFormat"]
+
+
+def declares_container(metadata):
+    """Is the attachment of a sub-block with that metadata a chunk container?"""
+    declares, open_tags, behind, at = False, [], 0, 0
+    while at < len(metadata):
+        start = START_TAG.match(metadata, at)
+        end = END_TAG.match(metadata, at)
+        part = start or end or TEXT.match(metadata, at) or SKIPPED.match(metadata, at)
+        if part is None:
+            return False
+        if start and not start[0].endswith(b"/>"):
+            open_tags.append(start[1])
+            behind = part.end()
+            if len(open_tags) > 64:
+                return False
+        if end:
+            if open_tags == SECTION and metadata[behind:at] == b"CHUNKCONTAINER":
+                declares = True
+            if open_tags[-1:] != [end[1]]:
+                return False
+            open_tags.pop()
+        at = part.end()
+    return declares and not open_tags
 
 
 class Refused(Exception):
@@ -122,7 +155,7 @@ class Reading:
         refuse(fixed + metadata + data + attachment > block.room, 16, block.at)
         refuse(data != x[2] * y[2] * BYTES_A_PIXEL[pixel_type], 16, block.at)
         start = block.body + fixed
-        if MARKER in self.file[start:start + metadata]:
+        if declares_container(self.file[start:start + metadata]):
             start += metadata + data
             self.chunks(start, start + attachment)
         self.tiles.append((x, y))

@@ -5,12 +5,14 @@
 
 mod bits;
 mod leaves;
+mod metadata;
 mod mosaic;
 mod native;
 mod planes;
 #[allow(unsafe_code)]
 mod probe;
 mod report;
+mod scanner;
 mod table;
 mod timing;
 mod whole;
@@ -21,9 +23,10 @@ use table::table;
 use timing::Rounds;
 
 const USAGE: &str = "\
-usage: bench [--markdown] [--limits] [--times N] [--seconds S]
+usage: bench [--markdown] [--limits] [--metadata] [--times N] [--seconds S]
   --markdown   tables in Markdown
   --limits     the first table alone: the figures to reach
+  --metadata   of that the lines about metadata alone
   --times N    at least so many repetitions of each measure (21) ..
   --seconds S  .. and for at least so long (5)
 ";
@@ -31,6 +34,7 @@ usage: bench [--markdown] [--limits] [--times N] [--seconds S]
 struct Options {
     markdown: bool,
     limits: bool,
+    metadata: bool,
     rounds: Rounds,
 }
 
@@ -49,6 +53,11 @@ fn main() {
         "Of each measure the sides in turn, at least {times} times and {} s; the least time of each counts.\n",
         length.as_secs_f64()
     );
+    if options.metadata {
+        let report = Report::of_metadata(options.rounds);
+        println!("{}", table(&report.limits, options.markdown));
+        return;
+    }
     let report = Report::new(options.rounds, !options.limits);
     println!("{}", table(&report.limits, options.markdown));
     if !probe::LINKED {
@@ -63,6 +72,7 @@ fn options() -> Option<Options> {
     let mut options = Options {
         markdown: false,
         limits: false,
+        metadata: false,
         rounds: Rounds {
             times: 21,
             length: Duration::from_secs(5),
@@ -73,6 +83,7 @@ fn options() -> Option<Options> {
         match word.as_str() {
             "--markdown" => options.markdown = true,
             "--limits" => options.limits = true,
+            "--metadata" => options.metadata = true,
             "--times" => options.rounds.times = words.next()?.parse().ok().filter(|&n| n > 0)?,
             "--seconds" => {
                 options.rounds.length = Duration::from_secs(words.next()?.parse().ok()?);

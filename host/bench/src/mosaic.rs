@@ -1,7 +1,7 @@
 //! Files to measure with: square tiles of drawn pixels, with masks or without.
 
 use czi::PixelType;
-use generate::{Kind, Random, MARKER, MASK_GUID};
+use generate::{Kind, Random, MASK_GUID, SECTION};
 
 /// The valid pixels of a tile.
 #[derive(Clone, Copy, Debug, PartialEq, Eq)]
@@ -94,7 +94,7 @@ impl Mosaic {
     }
 }
 
-/// A file of one sub-block that so many entries name; it has an attachment and long metadata without the marker.
+/// A file of one sub-block that so many entries name; it has an attachment and long metadata without the section.
 pub fn named_often(entries: usize) -> Vec<u8> {
     let tile = grid(1, 16, 16, TileMask::None)[0];
     let mut bytes = file_segment();
@@ -155,7 +155,7 @@ impl Tile {
         let mut chunk = MASK_GUID.to_vec();
         chunk.extend((payload.len() as i32).to_le_bytes());
         chunk.extend(payload);
-        (MARKER.to_vec(), chunk)
+        (SECTION.to_vec(), chunk)
     }
 }
 

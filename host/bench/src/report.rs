@@ -4,7 +4,7 @@ use crate::mosaic::TileMask;
 use crate::planes::Call;
 use crate::table::Line;
 use crate::timing::Rounds;
-use crate::{bits, leaves, probe, whole};
+use crate::{bits, leaves, metadata, probe, whole};
 use czi::PixelType;
 
 /// The pixel types measured, one for each number of bytes.
@@ -19,6 +19,7 @@ const PIXEL_TYPES: [PixelType; 4] = [
 const LIMITED_MASKS: (TileMask, PixelType) = (TileMask::AllValid, PixelType::Gray16);
 
 /// The lines of both tables.
+#[derive(Default)]
 pub struct Report {
     /// The figures to reach.
     pub limits: Vec<Line>,
@@ -27,12 +28,16 @@ pub struct Report {
 }
 
 impl Report {
+    /// Takes the measures of metadata alone.
+    pub fn of_metadata(rounds: Rounds) -> Report {
+        let mut report = Report::default();
+        report.metadata(rounds);
+        report
+    }
+
     /// Takes the measures: all, or those with a limit.
     pub fn new(rounds: Rounds, all: bool) -> Report {
-        let mut report = Report {
-            limits: Vec::new(),
-            others: Vec::new(),
-        };
+        let mut report = Report::default();
         report.no_masks(rounds);
         for mask in [TileMask::AllValid, TileMask::HalfValid] {
             for of in PIXEL_TYPES {
@@ -43,6 +48,7 @@ impl Report {
         }
         report.map_bits(rounds, all);
         report.judge(rounds, all);
+        report.metadata(rounds);
         if probe::LINKED {
             report.equal_range(rounds);
         }
@@ -129,6 +135,22 @@ impl Report {
             let [often, once] = leaves::judge_named_often(rounds);
             let measure = "judge of a sub-block that 4,096 entries name / that one names";
             self.others.push(Line::new(measure, often, once));
+        }
+    }
+
+    fn metadata(&mut self, rounds: Rounds) {
+        let [library, native] = metadata::ordinary(rounds);
+        let line = Line::new(
+            "judge of 1 MiB of metadata / native scanner",
+            library,
+            native,
+        );
+        self.limits.push(line.at_most(1.5));
+        for kind in metadata::KINDS {
+            let [whole, half] = metadata::twice(kind, rounds);
+            let measure = format!("judge of 4 MiB of metadata, {} / of 2 MiB", kind.0);
+            self.limits
+                .push(Line::new(measure, whole, half).at_most(2.2));
         }
     }
 

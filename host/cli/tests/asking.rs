@@ -134,6 +134,17 @@ fn names_of_attachments_are_printed_on_their_line() {
 }
 
 #[test]
+fn only_a_mask_that_its_section_declares_hides_pixels() {
+    let file = sample("marker_outside.czi");
+    let tiles = prints(&["tiles", &file]);
+    let masks: Vec<bool> = tiles.lines().map(|l| l.ends_with(" mask=4x1")).collect();
+    assert_eq!(masks, [false, false, false, false, true], "{tiles}");
+    assert!(prints(&["info", &file]).contains("masked_tiles=1\n"));
+    assert!(prints(&["count", &file, "--masks=off"]).starts_with("covered=20\n"));
+    assert!(prints(&["count", &file, "--masks=on"]).starts_with("covered=16\n"));
+}
+
+#[test]
 fn a_count_is_that_of_the_composer() {
     let file = sample("mosaic.czi");
     let chosen = |masks: &str| {

@@ -1,6 +1,6 @@
 //! The proved library compared with the reference, which was written from the
-//! paper and not from the definitions: generated files, damaged ones, and
-//! questions to them. Every number of every answer and every lent byte is
+//! paper and not from the definitions: generated files, damaged ones, metadata
+//! of every kind, and questions to them. Every number of every answer and every lent byte is
 //! compared, of refused calls too. Prints how often each clause was reached;
 //! one reached not once fails the run, as any difference does, and a failing
 //! case is kept in a file that says how to run it again.
@@ -11,6 +11,7 @@ mod chosen;
 mod damages;
 mod lent;
 mod limits;
+mod metadata;
 mod options;
 mod planes;
 mod reader;
@@ -56,6 +57,8 @@ fn run(options: &Options) -> Report {
     }
     if !options.replay {
         limits::check_longest(&mut report);
+        metadata::check_long(&mut report);
+        metadata::check_short(&mut report);
         types::check(&mut report);
     }
     report
@@ -78,6 +81,7 @@ fn compare(seed: u64, options: &Options, report: &mut Report) {
     reader::check_requests(&sound, random, report);
     planes::check(&sound, random, options.questions, report);
     damages::check(&sound, random, report);
+    metadata::check(random, report);
     if seed.is_multiple_of(100) {
         limits::check(&sound, random, report);
     }

@@ -10,7 +10,7 @@ use generate::{Random, Sound};
 use reference::{judge, Counts, File, Masks, Refusal};
 
 /// What a call left and said.
-struct Composed {
+pub struct Composed {
     buffers: Buffers,
     counts: Counts,
 }
@@ -136,7 +136,7 @@ fn note_outcome(ask: &Ask, counts: &Counts, report: &mut Report) {
 /// Both composers and the reference on one question: the same counts, the
 /// same bytes in all that is lent and around it, or the same refusal and
 /// nothing changed. Answers what the library gave.
-fn compose(
+pub fn compose(
     bytes: &[u8],
     file: &Result<File, Refusal>,
     ask: &Ask,

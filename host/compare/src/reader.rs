@@ -72,7 +72,7 @@ fn check_tile(bytes: &[u8], file: &Result<File, Refusal>, entry: u64, report: &m
 }
 
 /// One request for a record or a part.
-fn check_request(
+pub fn check_request(
     bytes: &[u8],
     file: &Result<File, Refusal>,
     request: Request,

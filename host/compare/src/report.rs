@@ -2,7 +2,7 @@
 
 use generate::ask::{ask_clauses, ask_freedoms, REQUEST_CLAUSES};
 use generate::damage::{clauses, EXTERNAL_CLAUSE};
-use generate::{freedoms, Tally, LIMITS, LISTING_CLAUSES};
+use generate::{freedoms, metadata_names, Tally, LIMITS, LISTING_CLAUSES};
 use std::fmt;
 use std::fs;
 use std::path::PathBuf;
@@ -51,6 +51,35 @@ const CHOICES: [&str; 6] = [
     "an edge above 2^31 - 1, and a tile meets the window",
 ];
 
+/// Of metadata of drawn tokens at least one in so many must declare a container.
+const LEAST_DECLARED: u64 = 10;
+
+/// Metadata, and those that declare a container.
+#[derive(Default)]
+pub struct Declared {
+    all: u64,
+    declaring: u64,
+}
+
+impl Declared {
+    /// One more.
+    pub fn note(&mut self, declares: bool) {
+        self.all += 1;
+        self.declaring += u64::from(declares);
+    }
+}
+
+impl fmt::Display for Declared {
+    fn fmt(&self, f: &mut fmt::Formatter<'_>) -> fmt::Result {
+        let share = 100.0 * self.declaring as f64 / self.all.max(1) as f64;
+        let (all, declaring) = (self.all, self.declaring);
+        write!(
+            f,
+            "{all}, of which {declaring} declare a container ({share:.0} %)"
+        )
+    }
+}
+
 /// Counts and differences.
 pub struct Report {
     seed: u64,
@@ -73,8 +102,18 @@ pub struct Report {
     pub tables: u64,
     /// Questions for what is selected.
     pub chosen: u64,
+    /// Metadata of drawn tokens.
+    pub tokens: Declared,
+    /// Metadata with a foretold answer.
+    pub foretold: Declared,
+    /// The section with a short string in it.
+    pub short: Declared,
+    /// Of the drawn ones and the foretold, those with a mask.
+    pub masked: u64,
     /// Freedoms that sound files take.
     pub freedoms: Tally,
+    /// What metadata hold, or have wrong.
+    pub metadata_names: Tally,
     /// Files at a limit.
     pub limits: Tally,
     /// Freedoms that questions take.
@@ -118,7 +157,12 @@ impl Report {
             questions: 0,
             tables: 0,
             chosen: 0,
+            tokens: Declared::default(),
+            foretold: Declared::default(),
+            short: Declared::default(),
+            masked: 0,
             freedoms: Tally::new("Files that take a freedom", freedoms()),
+            metadata_names: Tally::new("Metadata by what they hold", metadata_names()),
             limits: Tally::new("Files at a limit", LIMITS.iter().map(|l| l.name)),
             ask_freedoms: Tally::new("Questions that take a freedom", ask_freedoms()),
             outcomes: Tally::new("Questions by what came of them", OUTCOMES),
@@ -211,9 +255,10 @@ impl Report {
         });
     }
 
-    fn tallies(&self) -> [&Tally; 7] {
+    fn tallies(&self) -> [&Tally; 8] {
         [
             &self.freedoms,
+            &self.metadata_names,
             &self.limits,
             &self.ask_freedoms,
             &self.outcomes,
@@ -226,7 +271,11 @@ impl Report {
     /// No difference, and every name reached unless it is a replay.
     pub fn passed(&self, replay: bool) -> bool {
         let all_reached = self.tallies().iter().all(|t| t.missing().is_empty());
-        self.differences.is_empty() && (replay || all_reached)
+        self.differences.is_empty() && (replay || all_reached && self.enough_declared())
+    }
+
+    fn enough_declared(&self) -> bool {
+        self.tokens.declaring * LEAST_DECLARED >= self.tokens.all
     }
 }
 
@@ -251,6 +300,20 @@ impl fmt::Display for Report {
             "{} questions to both composers, {} for what is selected, {} tables of all records, {} calls of the library in all",
             self.questions, self.chosen, self.tables, self.calls
         )?;
+        writeln!(f, "metadata of drawn tokens: {}", self.tokens)?;
+        writeln!(f, "metadata by what they hold: {}", self.foretold)?;
+        writeln!(
+            f,
+            "{} of both with a mask through both composers, masks on",
+            self.masked
+        )?;
+        writeln!(f, "the section with every short string: {}", self.short)?;
+        if !self.enough_declared() {
+            writeln!(
+                f,
+                "NOT REACHED: one in {LEAST_DECLARED} of drawn tokens declares a container"
+            )?;
+        }
         for name in self.tallies().iter().flat_map(|t| t.missing()) {
             writeln!(f, "NOT REACHED: {name}")?;
         }

@@ -2,8 +2,8 @@
 
 use crate::container::{draw_chunks, draw_plain};
 use crate::format::{bytes_a_pixel, PIXEL_TYPES};
+use crate::markup::Metadata;
 use crate::random::Random;
-use crate::text::{ends_short_of_marker, with_marker, without_marker};
 use crate::tile::{Attached, Dimension, Tile};
 
 /// A tile's pixels take about this many bytes at most.
@@ -59,22 +59,24 @@ impl Canvas {
             pixel_type,
             pyramid: random.pick(&[0, 0, 1, 2, 255]),
             dimensions,
-            metadata: Vec::new(),
+            metadata: Metadata::default(),
             pixels: Vec::new(),
             attached: Attached::Plain(Vec::new()),
         };
         tile.pixels = random.bytes(tile.data_size());
         let (width, height) = (tile.x().stored(), tile.y().stored());
-        if random.percent(50) {
-            tile.metadata = with_marker(random);
-            tile.attached = Attached::Container(draw_chunks(random, width, height));
-        } else {
-            tile.metadata = without_marker(random);
-            tile.attached = Attached::Plain(draw_plain(random, width, height));
-            if ends_short_of_marker(&tile.metadata) {
-                // The pixels complete what the metadata leaves out.
-                tile.pixels[0] = b'>';
-            }
+        tile.metadata = match random.below(10) {
+            0..=4 => Metadata::declaring(random),
+            5 | 6 => Metadata::none(),
+            _ => Metadata::other(random),
+        };
+        tile.attached = match tile.metadata.declares {
+            true => Attached::Container(draw_chunks(random, width, height)),
+            false => Attached::Plain(draw_plain(random, width, height)),
+        };
+        if tile.metadata.lacks_last {
+            // The pixels complete what the metadata leave out.
+            tile.pixels[0] = b'>';
         }
         tile
     }

@@ -1,6 +1,6 @@
 //! Attachments of a sub-block: chunk containers with and without a mask, and plain bytes.
 
-use crate::format::{MARKER, MASK_GUID, PRINTED_GUID};
+use crate::format::{MASK_GUID, PRINTED_GUID, SECTION};
 use crate::random::Random;
 use crate::tile::{Chunk, MaskShape};
 
@@ -25,7 +25,7 @@ pub fn draw_plain(random: &mut Random, width: i32, height: i32) -> Vec<u8> {
             random.bytes(length)
         }
         6 => mask_chunk(random, MASK_GUID, width, height).encode(),
-        _ => MARKER.to_vec(),
+        _ => SECTION.to_vec(),
     }
 }
 

@@ -65,8 +65,12 @@ pub fn bytes_a_pixel(pixel_type: i32) -> usize {
     listed.expect("a listed pixel type").1
 }
 
-/// The bytes that make an attachment a chunk container.
-pub const MARKER: &[u8; 39] = b"<DataFormat>CHUNKCONTAINER</DataFormat>";
+/// Metadata that declare the attachment a chunk container, and nothing else.
+pub const SECTION: &[u8] = b"<METADATA><AttachmentSchema><DataFormat>CHUNKCONTAINER</DataFormat>\
+    </AttachmentSchema></METADATA>";
+
+/// What made an attachment a chunk container by paper 01 alone, wherever it stood.
+pub const MARKER: &[u8] = b"<DataFormat>CHUNKCONTAINER</DataFormat>";
 
 /// The mask GUID as it is stored.
 pub const MASK_GUID: [u8; 16] =

@@ -1,7 +1,7 @@
 //! Files and questions by seed.
 //!
 //! [`sound`] gives files that a reader must accept, with every freedom that
-//! the rules of paper 01 leave; [`damage`] changes one field of such a file so
+//! the rules of papers 01 and 02 leave; [`damage`] changes one field of such a file so
 //! that a given clause of the refusal table is reached; [`ask`] gives
 //! questions, answered and refused ones. Each says by name what it reached,
 //! and a [`Tally`] counts the names.
@@ -16,17 +16,20 @@ mod draft;
 mod format;
 mod freedoms;
 mod limits;
+mod markup;
+mod one_tile;
 mod random;
 mod segment;
 mod sound;
 mod tally;
-mod text;
 mod tile;
 
 pub use draft::sound;
-pub use format::{bytes_a_pixel, Kind, MARKER, MASK_GUID, PIXEL_TYPES};
+pub use format::{bytes_a_pixel, Kind, MASK_GUID, PIXEL_TYPES, SECTION};
 pub use freedoms::{freedoms, freedoms_of};
 pub use limits::{Limit, LIMITS, LISTING_CLAUSES};
+pub use markup::{draw_tokens, metadata_names, Metadata};
+pub use one_tile::OneTile;
 pub use random::Random;
 pub use segment::{SegmentPlace, HEADER};
 pub use sound::{AttachmentPlace, EntryPlace, MetadataPlace, Sound};

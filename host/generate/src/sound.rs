@@ -79,7 +79,7 @@ impl Sound {
 
     /// The offset of an entry's pixels in the file.
     pub fn pixels_at(&self, entry: &EntryPlace) -> usize {
-        self.metadata_at(entry) + self.tile(entry).metadata.len()
+        self.metadata_at(entry) + self.tile(entry).metadata.bytes.len()
     }
 
     /// The offset of an entry's attachment in the file.

@@ -1,6 +1,7 @@
 //! A tile as it is planned: its entry, its sub-block, its mask.
 
 use crate::format::{bytes_a_pixel, MASK_GUID};
+use crate::markup::Metadata;
 
 /// A dimension as it is written.
 #[derive(Clone, Copy, Debug)]
@@ -69,9 +70,9 @@ impl Chunk {
 /// What a sub-block's attachment is.
 #[derive(Clone, Debug)]
 pub enum Attached {
-    /// Plain bytes: the metadata has no marker.
+    /// Plain bytes: the metadata declare nothing.
     Plain(Vec<u8>),
-    /// A chunk container: the metadata has the marker.
+    /// A chunk container: the metadata declare one.
     Container(Vec<Chunk>),
 }
 
@@ -85,7 +86,7 @@ pub struct Tile {
     /// The dimensions in order.
     pub dimensions: Vec<Dimension>,
     /// The sub-block's metadata.
-    pub metadata: Vec<u8>,
+    pub metadata: Metadata,
     /// The pixels.
     pub pixels: Vec<u8>,
     /// The sub-block's attachment.
@@ -179,12 +180,12 @@ impl Tile {
     /// stands between the copy and the metadata.
     pub fn encode_sub_block(&self, spare: [u8; 5], filler: u8) -> Vec<u8> {
         let attachment = self.attachment();
-        let mut content = (self.metadata.len() as i32).to_le_bytes().to_vec();
+        let mut content = (self.metadata.bytes.len() as i32).to_le_bytes().to_vec();
         content.extend((attachment.len() as i32).to_le_bytes());
         content.extend((self.pixels.len() as i64).to_le_bytes());
         content.extend(self.encode_entry(spare));
         content.resize(self.fixed_part(), filler);
-        content.extend(&self.metadata);
+        content.extend(&self.metadata.bytes);
         content.extend(&self.pixels);
         content.extend(attachment);
         content

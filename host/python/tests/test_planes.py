@@ -50,6 +50,16 @@ class Planes(unittest.TestCase):
         # Without masks: the pixels in one of the four rectangles.
         self.assertEqual(czi.compose(file).covered, 1174)
 
+    def test_only_a_mask_that_its_section_declares_hides_pixels(self):
+        file = sample("marker_outside")
+        self.assertEqual([t.mask is not None for t in czi.tiles(file)], [False, False, False, False, True])
+        tiles = b"".join(bytes([n]) * 4 for n in range(1, 6))
+        for composer in ("plain", "quick"):
+            self.assertEqual(bytes(czi.compose(file, composer=composer).target), tiles)
+            plane = czi.compose(file, masks=True, composer=composer)
+            self.assertEqual(bytes(plane.target), tiles[:16] + bytes(4))
+            self.assertEqual((plane.covered, plane.stored), (16, 16))
+
     def test_what_is_selected(self):
         file, _, ones = openslide("scenes")
         first, second, any_scene = (czi.compose(file, scene=scene).covered for scene in (0, 1, "any"))

@@ -4,10 +4,6 @@
 use crate::bytes::{int, part, View};
 use crate::refusal::{refuse_if, Refusal};
 
-/// A sub-block's attachment is a container when this stands anywhere in the
-/// sub-block's metadata.
-const MARKER: &[u8] = b"<DataFormat>CHUNKCONTAINER</DataFormat>";
-
 /// {CBE3EA67-5BFC-492B-A16A-ECE378031448}, as it is stored.
 const MASK_GUID: [u8; 16] = [
     0x67, 0xEA, 0xE3, 0xCB, 0xFC, 0x5B, 0x2B, 0x49, 0xA1, 0x6A, 0xEC, 0xE3, 0x78, 0x03, 0x14, 0x48,
@@ -47,11 +43,6 @@ impl Mask {
         let bit = 7 - x % 8;
         part(file, byte, 1)[0] >> bit & 1 == 1
     }
-}
-
-/// Does the metadata declare the attachment a chunk container?
-pub(crate) fn is_container(metadata: &[u8]) -> bool {
-    metadata.windows(MARKER.len()).any(|w| w == MARKER)
 }
 
 /// Reads the chunks, which fill the attachment exactly, and answers the mask
@@ -174,14 +165,5 @@ mod tests {
         let file = [one.clone(), one.clone()].concat();
         let refusal = Refusal::new(18, one.len() as u64);
         assert_eq!(read_chunks(&file, whole(&file)), Err(refusal));
-    }
-
-    #[test]
-    fn the_marker_is_found_after_a_false_start() {
-        assert!(is_container(
-            b"<DataFormat><DataFormat>CHUNKCONTAINER</DataFormat>"
-        ));
-        assert!(!is_container(b"<DataFormat>CHUNKCONTAINER</DataFormat"));
-        assert!(!is_container(b""));
     }
 }

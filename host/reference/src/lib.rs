@@ -1,6 +1,6 @@
 //! An independent reader and composer for CZI files, written straight from
-//! paper 01 and from nothing else: the other side of every comparison with the
-//! proved library.
+//! papers 01 and 02 and from nothing else: the other side of every comparison
+//! with the proved library.
 //!
 //! It is slow and plain on purpose. A row of the paper's refusal table is an
 //! `if` with the paper's words above it, rows stand in the paper's order, and
@@ -17,6 +17,7 @@ mod attachment;
 mod bytes;
 mod chunk;
 mod compose;
+mod declaration;
 mod directory;
 mod entry;
 mod file_segment;
@@ -34,6 +35,7 @@ pub use attachment::Attachment;
 pub use bytes::View;
 pub use chunk::Mask;
 pub use compose::Counts;
+pub use declaration::declares_container;
 pub use entry::Dimension;
 pub use judge::{judge, File};
 pub use listing::{list, Edges, Summary, LISTING_LIMIT};

@@ -1,7 +1,8 @@
 //! The sub-block that an entry names: refusals 15 and 16, then its chunks.
 
 use crate::bytes::{int, long, part, View};
-use crate::chunk::{is_container, read_chunks, Mask};
+use crate::chunk::{read_chunks, Mask};
+use crate::declaration::declares_container;
 use crate::entry::Entry;
 use crate::refusal::{refuse_if, Refusal};
 use crate::segment::Segment;
@@ -57,7 +58,7 @@ pub(crate) fn read_sub_block(
         start: pixels.end(),
         length: attachment_size as u64,
     };
-    let mask = if is_container(metadata.of(file)) {
+    let mask = if declares_container(metadata.of(file)) {
         read_chunks(file, attachment)?
     } else {
         None

@@ -120,7 +120,7 @@ fn p11_a_window_at_the_signed_edge() {
 fn p12_a_container_of_19_bytes() {
     let bytes = file(&[Tile::gray8(0, 0, 1, &[7], &[]).with_container(&[0; 19])]);
     let tile_at = 128 + 32 + 224;
-    let attachment = tile_at + 32 + 256 + build::MARKER.len() as u64 + 1;
+    let attachment = tile_at + 32 + 256 + build::SECTION.len() as u64 + 1;
     assert_eq!(refusal(&bytes), Some((17, attachment)));
 }
 

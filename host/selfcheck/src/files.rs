@@ -26,7 +26,7 @@ fn check_file(file: &File, sound: &Sound, report: &mut Report) {
         let pixels = tile.pixels.of(&sound.bytes);
         report.compare("pixels", pixels, &sound.tile(entry).pixels);
         let metadata = tile.metadata.of(&sound.bytes);
-        report.compare("metadata", metadata, &sound.tile(entry).metadata);
+        report.compare("metadata", metadata, &sound.tile(entry).metadata.bytes);
         let attachment = tile.attachment.of(&sound.bytes);
         report.compare("attachment", attachment, &sound.tile(entry).attachment());
     }
@@ -77,7 +77,7 @@ fn tile(number: u64, entry: &EntryPlace, sound: &Sound) -> Tile {
         x: extent(plan.x()),
         y: extent(plan.y()),
         m: plan.m(),
-        metadata: view(metadata_at, plan.metadata.len()),
+        metadata: view(metadata_at, plan.metadata.bytes.len()),
         pixels: view(pixels_at, plan.pixels.len()),
         attachment: view(attachment_at, attachment.len()),
         mask: mask(plan, attachment_at),

@@ -1,12 +1,14 @@
 //! The reference and the generator held against each other: sound files are
-//! accepted and read as planned, damaged ones refused as foretold, questions
-//! answered as a painter would. Prints how often each freedom and each clause
-//! was reached; one reached not once fails the run, as any difference does.
+//! accepted and read as planned, damaged ones refused as foretold, metadata
+//! declare a container as foretold, questions are answered as a painter would.
+//! Prints how often each freedom and each clause was reached; one reached not
+//! once fails the run, as any difference does.
 
 #![forbid(unsafe_code)]
 
 mod damages;
 mod files;
+mod metadata;
 mod options;
 mod painter;
 mod questions;
@@ -50,6 +52,7 @@ fn run(options: &Options) -> Report {
             files::check_limits(&sound, random, &mut report);
         }
         damages::check(&sound, random, &mut report);
+        metadata::check(random, &mut report);
         questions::check(&sound, random, options.questions, &mut report);
     }
     report

@@ -2,7 +2,7 @@
 
 use generate::ask::{ask_clauses, ask_freedoms, REQUEST_CLAUSES};
 use generate::damage::{clauses, EXTERNAL_CLAUSE};
-use generate::{freedoms, Tally, LIMITS, LISTING_CLAUSES};
+use generate::{freedoms, metadata_names, Tally, LIMITS, LISTING_CLAUSES};
 use std::fmt;
 
 /// A run prints so many differences and counts the rest.
@@ -30,7 +30,11 @@ pub struct Report {
     /// Files with two damages at once, and with damage of any kind.
     pub pairs: u64,
     pub scrambled: u64,
+    /// Metadata by themselves, and those that declare a container.
+    pub metadata: u64,
+    pub declared: u64,
     pub freedoms: Tally,
+    pub metadata_names: Tally,
     pub limits: Tally,
     pub ask_freedoms: Tally,
     pub outcomes: Tally,
@@ -56,7 +60,10 @@ impl Report {
             bytes: 0,
             pairs: 0,
             scrambled: 0,
+            metadata: 0,
+            declared: 0,
             freedoms: Tally::new("Files that take a freedom", freedoms()),
+            metadata_names: Tally::new("Metadata by what they hold", metadata_names()),
             limits: Tally::new("Files at a limit", LIMITS.iter().map(|l| l.name)),
             ask_freedoms: Tally::new("Questions that take a freedom", ask_freedoms()),
             outcomes: Tally::new("Questions by what came of them", OUTCOMES),
@@ -82,9 +89,10 @@ impl Report {
         }
     }
 
-    fn tallies(&self) -> [&Tally; 5] {
+    fn tallies(&self) -> [&Tally; 6] {
         [
             &self.freedoms,
+            &self.metadata_names,
             &self.limits,
             &self.ask_freedoms,
             &self.outcomes,
@@ -107,6 +115,11 @@ impl fmt::Display for Report {
         writeln!(f, "{} files, {} bytes in all", self.files, self.bytes)?;
         writeln!(f, "{} with two damages at once", self.pairs)?;
         writeln!(f, "{} with damage of any kind", self.scrambled)?;
+        writeln!(
+            f,
+            "{} metadata, {} of them declare a container",
+            self.metadata, self.declared
+        )?;
         for name in self.tallies().iter().flat_map(|t| t.missing()) {
             writeln!(f, "NOT REACHED: {name}")?;
         }

@@ -2,7 +2,7 @@
 
 use super::order::Step;
 use super::{Clause, Damage, Order};
-use crate::format::MASK_GUID;
+use crate::format::{MASK_GUID, SECTION};
 use crate::random::Random;
 use crate::sound::{EntryPlace, Sound};
 use crate::tile::{Chunk, MaskShape};
@@ -25,6 +25,11 @@ pub(super) const CLAUSES: &[Clause] = &[
         "17: the last chunk ends before the attachment",
         17,
         chunk_short,
+    ),
+    Clause::new(
+        "17: plain bytes that other metadata declare a container",
+        17,
+        declared,
     ),
     Clause::new("18: a mask's payload under 16", 18, payload_short),
     Clause::new("18: width negative", 18, width_negative),
@@ -151,6 +156,25 @@ fn short_container(sound: &Sound, random: &mut Random) -> Option<Damage> {
     let order = Order::entry(index, Step::Chunk(0));
     let damage = Damage::new(sound.attachment_at(entry), order).moving(entry.segment);
     Some(damage.int(attachment_size_at(sound, entry), size))
+}
+
+/// Plain bytes too few for a chunk, and metadata of the same length with the section.
+fn declared(sound: &Sound, random: &mut Random) -> Option<Damage> {
+    let firsts = sound.entries.iter().enumerate().filter(|(_, e)| e.first);
+    let fitting = firsts.filter(|(_, e)| {
+        let tile = sound.tile(e);
+        tile.chunks().is_none()
+            && (1..20).contains(&tile.attachment().len())
+            && tile.metadata.bytes.len() >= SECTION.len()
+    });
+    let (index, entry) = random.pick_from(fitting.collect())?;
+    let spare = sound.tile(entry).metadata.bytes.len() - SECTION.len();
+    let before = random.below(spare + 1);
+    let white = |count| vec![b' '; count];
+    let metadata = [&white(before), SECTION, &white(spare - before)].concat();
+    let order = Order::entry(index, Step::Chunk(0));
+    let damage = Damage::new(sound.attachment_at(entry), order).moving(entry.segment);
+    Some(damage.write(sound.metadata_at(entry), &metadata))
 }
 
 fn short_rest(sound: &Sound, random: &mut Random) -> Option<Damage> {

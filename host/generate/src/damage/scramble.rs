@@ -43,12 +43,13 @@ fn change(bytes: &mut Vec<u8>, sound: &Sound, random: &mut Random) {
     }
 }
 
-/// An offset, mostly in the first bytes of a segment, an entry or an attachment.
+/// An offset, mostly in the first bytes of a segment, an entry, metadata or an attachment.
 fn place(length: usize, sound: &Sound, random: &mut Random) -> usize {
     let segment = random.pick(&sound.segments);
     let mut near = vec![segment.position, segment.content()];
     for entry in &sound.entries {
         near.extend([entry.place, entry.place + 32, sound.attachment_at(entry)]);
+        near.push(sound.metadata_at(entry));
     }
     near.extend(sound.attachments.iter().map(|a| a.place));
     let base = random.pick(&near);

@@ -174,7 +174,7 @@ fn other_sub_block(sound: &Sound, random: &mut Random) -> Option<Damage> {
 
 fn metadata_negative(sound: &Sound, random: &mut Random) -> Option<Damage> {
     let chosen = choose(sound, random, |_| true)?;
-    let right = sound.tile(chosen.entry).metadata.len() as i32;
+    let right = sound.tile(chosen.entry).metadata.bytes.len() as i32;
     let size = random.pick(&[-1, i32::MIN, right | i32::MIN]);
     Some(chosen.damage(Step::Sizes).int(chosen.content, size))
 }
@@ -211,7 +211,7 @@ fn over(random: &mut Random, right: usize, slack: i64) -> i32 {
 
 fn metadata_over(sound: &Sound, random: &mut Random) -> Option<Damage> {
     let chosen = choose(sound, random, |_| true)?;
-    let right = sound.tile(chosen.entry).metadata.len();
+    let right = sound.tile(chosen.entry).metadata.bytes.len();
     let size = over(random, right, chosen.slack());
     Some(chosen.moving().int(chosen.content, size))
 }

@@ -1,6 +1,6 @@
 //! Freedoms of a tile: its type, its dimensions, its metadata.
 
-use crate::format::MARKER;
+use crate::format::SECTION;
 use crate::tile::{Attached, Dimension, Tile};
 
 pub(super) const OF_TYPES: &[(i32, &str)] = &[
@@ -79,18 +79,15 @@ pub(super) const OF_TILES: &[OfTile] = &[
     ("pyramid tile with a mask", |t| {
         t.is_pyramid_tile() && t.mask().is_some()
     }),
-    ("no metadata", |t| t.metadata.is_empty()),
-    ("metadata without the marker", |t| {
-        !t.metadata.is_empty() && t.chunks().is_none()
+    ("no metadata", |t| t.metadata.bytes.is_empty()),
+    ("metadata that declare no container", |t| {
+        !t.metadata.bytes.is_empty() && t.chunks().is_none()
     }),
-    ("the marker with bytes before it", |t| {
-        t.chunks().is_some() && !t.metadata.starts_with(MARKER)
+    ("metadata that declare a container", |t| {
+        t.chunks().is_some()
     }),
-    ("the marker with bytes behind it", |t| {
-        t.chunks().is_some() && !t.metadata.ends_with(MARKER)
-    }),
-    ("the marker ended by the pixels", |t| {
-        marker_ends_in_pixels(t)
+    ("the section ended by the pixels", |t| {
+        t.metadata.lacks_last && t.pixels[0] == b'>'
     }),
     ("no attachment", |t| t.attachment().is_empty()),
     ("an attachment of plain bytes", |t| {
@@ -99,8 +96,8 @@ pub(super) const OF_TILES: &[OfTile] = &[
     ("a mask's chunk in an attachment of plain bytes", |t| {
         plain(t).is_some_and(|b| b.starts_with(&[0x67, 0xEA]))
     }),
-    ("the marker in the attachment alone", |t| {
-        plain(t).is_some_and(|b| b == MARKER)
+    ("the section in the attachment alone", |t| {
+        plain(t).is_some_and(|b| b == SECTION)
     }),
 ];
 
@@ -128,9 +125,4 @@ fn plain(tile: &Tile) -> Option<&[u8]> {
         Attached::Plain(bytes) => Some(bytes),
         Attached::Container(_) => None,
     }
-}
-
-fn marker_ends_in_pixels(tile: &Tile) -> bool {
-    let both = [&tile.metadata[..], &tile.pixels[..1]].concat();
-    plain(tile).is_some() && both.ends_with(MARKER)
 }

@@ -1,8 +1,9 @@
 //! Small files by hand for the worked cases: a file segment, the directory,
 //! then one sub-block a tile.
 
-/// The mark that makes an attachment a chunk container.
-pub const MARKER: &[u8] = b"<DataFormat>CHUNKCONTAINER</DataFormat>";
+/// Metadata that declare a chunk container: the section and nothing else.
+pub const SECTION: &[u8] = b"<METADATA><AttachmentSchema><DataFormat>CHUNKCONTAINER</DataFormat>\
+    </AttachmentSchema></METADATA>";
 
 /// The bytes of a mask chunk.
 pub fn mask_chunk(width: i32, height: i32, stride: i32, lines: &[u8]) -> Vec<u8> {
@@ -48,7 +49,7 @@ impl Tile {
 
     /// The same tile with a chunk container.
     pub fn with_container(mut self, attachment: &[u8]) -> Tile {
-        self.metadata = MARKER.to_vec();
+        self.metadata = SECTION.to_vec();
         self.attachment = attachment.to_vec();
         self
     }

@@ -1,0 +1,130 @@
+//! A file of one tile whose metadata and attachment are replaced at will.
+
+use crate::format::{Kind, MASK_GUID};
+
+/// The tile's sides in pixels of one byte.
+const WIDTH: usize = 8;
+const HEIGHT: usize = 2;
+
+/// The pixels stand right behind the metadata, and would close what is open there.
+const PIXELS: &[u8; WIDTH * HEIGHT] = b">-->]]>?>\">'>/>>";
+
+/// Where the directory, its entry, the sub-block and its metadata stand.
+const DIRECTORY: usize = 32 + 96;
+const ENTRY: usize = DIRECTORY + 32 + 128;
+const SUB_BLOCK: usize = ENTRY + 96;
+const METADATA: usize = SUB_BLOCK + 32 + 256;
+
+/// The file, Gray8, its tile at 0, 0.
+pub struct OneTile {
+    bytes: Vec<u8>,
+}
+
+impl OneTile {
+    /// An attachment that is no row of chunks: refused as 17 where the metadata declare one.
+    pub const NO_CHUNK: [u8; 7] = [0; 7];
+
+    /// The tile's width and height.
+    pub const SIDES: (u32, u32) = (WIDTH as u32, HEIGHT as u32);
+
+    /// The file up to the metadata.
+    pub fn new() -> OneTile {
+        let mut file = vec![0; 96];
+        file[0] = 1;
+        file[52..60].copy_from_slice(&(DIRECTORY as i64).to_le_bytes());
+        let mut entry = b"DV".to_vec();
+        entry.extend(0i32.to_le_bytes());
+        entry.extend((SUB_BLOCK as i64).to_le_bytes());
+        entry.extend([0; 14]);
+        entry.extend(2i32.to_le_bytes());
+        for (letter, size) in [(b'X', WIDTH), (b'Y', HEIGHT)] {
+            entry.extend([letter, 0, 0, 0, 0, 0, 0, 0]);
+            entry.extend((size as i32).to_le_bytes());
+            entry.extend([0; 8]);
+        }
+        let mut directory = 1i32.to_le_bytes().to_vec();
+        directory.resize(128, 0);
+        directory.extend(&entry);
+        let mut sub_block = vec![0; 8];
+        sub_block.extend((PIXELS.len() as i64).to_le_bytes());
+        sub_block.extend(&entry);
+        sub_block.resize(256, 0);
+        let mut bytes = Vec::new();
+        for (kind, content) in [
+            (Kind::File, file),
+            (Kind::Directory, directory),
+            (Kind::SubBlock, sub_block),
+        ] {
+            let allocated = content.len().next_multiple_of(32);
+            bytes.extend(kind.name());
+            bytes.extend((allocated as i64).to_le_bytes());
+            bytes.extend((content.len() as i64).to_le_bytes());
+            bytes.extend(&content);
+            bytes.resize(bytes.len() + allocated - content.len(), 0);
+        }
+        assert_eq!(bytes.len(), METADATA);
+        OneTile { bytes }
+    }
+
+    /// The file with this metadata and this attachment.
+    pub fn with(&mut self, metadata: &[u8], attachment: &[u8]) -> &[u8] {
+        let held = 256 + metadata.len() + PIXELS.len() + attachment.len();
+        let allocated = held.next_multiple_of(32);
+        let bytes = &mut self.bytes;
+        bytes[SUB_BLOCK + 16..][..8].copy_from_slice(&(allocated as i64).to_le_bytes());
+        bytes[SUB_BLOCK + 24..][..8].copy_from_slice(&(held as i64).to_le_bytes());
+        bytes[SUB_BLOCK + 32..][..4].copy_from_slice(&(metadata.len() as i32).to_le_bytes());
+        bytes[SUB_BLOCK + 36..][..4].copy_from_slice(&(attachment.len() as i32).to_le_bytes());
+        bytes.truncate(METADATA);
+        bytes.extend_from_slice(metadata);
+        bytes.extend_from_slice(PIXELS);
+        bytes.extend_from_slice(attachment);
+        bytes.resize(METADATA + allocated - 256, 0);
+        bytes
+    }
+
+    /// Where the attachment of that metadata stands.
+    pub fn attachment_at(metadata: &[u8]) -> u64 {
+        (METADATA + metadata.len() + PIXELS.len()) as u64
+    }
+
+    /// A container with a mask as large as the tile, of these two lines.
+    pub fn mask(lines: [u8; HEIGHT]) -> Vec<u8> {
+        let mut chunk = MASK_GUID.to_vec();
+        chunk.extend((16 + HEIGHT as i32).to_le_bytes());
+        for field in [WIDTH as i32, HEIGHT as i32, 0, 1] {
+            chunk.extend(field.to_le_bytes());
+        }
+        chunk.extend(lines);
+        chunk
+    }
+}
+
+impl Default for OneTile {
+    fn default() -> OneTile {
+        OneTile::new()
+    }
+}
+
+#[cfg(test)]
+mod tests {
+    use super::OneTile;
+    use crate::format::SECTION;
+    use reference::{judge, Refusal};
+
+    #[test]
+    fn metadata_and_attachment_are_replaced() {
+        let mut file = OneTile::new();
+        let refused = Refusal::new(17, OneTile::attachment_at(SECTION));
+        let judged = judge(file.with(SECTION, &OneTile::NO_CHUNK));
+        assert_eq!(judged.err(), Some(refused));
+        for (metadata, masked) in [(SECTION, true), (b"", false), (b"text", false)] {
+            let bytes = file.with(metadata, &OneTile::mask([0xF0, 0x0F]));
+            let judged = judge(bytes).expect("an accepted file");
+            let tile = judged.tile(0).expect("its tile");
+            assert_eq!(tile.metadata.of(bytes), metadata);
+            assert_eq!(tile.attachment.start, OneTile::attachment_at(metadata));
+            assert_eq!(tile.mask.is_some(), masked);
+        }
+    }
+}
