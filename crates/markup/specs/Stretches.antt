@@ -2,13 +2,18 @@
 use Prim.Native.Nat.{ℕ, _+_, _-_, _≤_, _<_}
 use mathlib.Core.Path.{_≡_}
 use mathlib.Core.List.{List}
-use mathlib.Core.Bool.{Bool, true, false}
+use mathlib.Core.Bool.{Bool, true, false, not}
+use lib.Dec.{eqb}
 use Rattle.format.specs.Bytes.{partOf, sameAt}
 use Rattle.format.specs.Markup.{front, behind}
 
 -- the bytes from `from` up to `to`
 unfoldable pub stretch : List ℕ → ℕ → ℕ → List ℕ
 stretch bs from to = partOf bs from (to - from)
+
+-- all but that quote
+unfoldable pub notQuote : ℕ → ℕ → Bool
+notQuote q b = not (eqb b q)
 
 -- the bytes of the class reach from `at` to `stop`, and no further before `end`
 pub record Passed (of : ℕ → Bool) (bs : List ℕ) (at end stop : ℕ) : Type 0 where

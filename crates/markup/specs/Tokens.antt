@@ -34,6 +34,18 @@ pub record Stands (bs : List ℕ) (at end : ℕ) (found : Found) (t : Token) : T
   pub says : found ≡ foundBy bs end t
   pub ahead : Ahead at end t
 
+-- within a start tag's quotes, at `at`: what stands behind the tag is what stands behind it from `next` on, outside quotes
+pub record Unquoted (bs : List ℕ) (at end q next : ℕ) : Type 0 where
+  pub from : at ≤ next
+  pub to : next ≤ end
+  pub same : (last : ℕ) → behindTag q last (stretch bs at end) ≡ behindTag 0 q (stretch bs next end)
+
+-- outside quotes, at i, where the byte b stands and doesn't end the tag
+pub record Past (bs : List ℕ) (i end b next : ℕ) : Type 0 where
+  pub from : i < next
+  pub to : next ≤ end
+  pub same : (b ≡ 62 → ⊥) → (b ≡ 60 → ⊥) → (last : ℕ) → behindTag 0 last (stretch bs i end) ≡ behindTag 0 b (stretch bs next end)
+
 -- by the last byte before its `>` a tag is empty or open
 unfoldable pub tagToken : ℕ → ℕ → ℕ → ℕ → Token
 tagToken last from length next = cond (eqb last 47) (Empty next) (Start from length next)

@@ -7,9 +7,9 @@ ghost use Prim.Native.Nat.{_+_, _-_, _<_, _≤_};
 ghost use lib.ListN.{length, getD};
 ghost use lib.Dec.{eqb};
 ghost use Rattle.format.specs.Bytes.{partOf};
-ghost use Rattle.format.specs.Markup.{quote, quoteAfter, beginsName, tagAt, endTagAt, itemAt};
+ghost use Rattle.format.specs.Markup.{beginsName, tagAt, endTagAt, itemAt};
 ghost use Rattle.markup.specs.Stretches.{stretch};
-ghost use Rattle.markup.specs.Tokens.{Stands, tagToken, tagBehind, skippedBehind, declarationAt};
+ghost use Rattle.markup.specs.Tokens.{Stands, Unquoted, Past, tagToken, tagBehind, skippedBehind, declarationAt};
 
 // ---- skipped parts
 
@@ -48,33 +48,30 @@ fn declaration(s: &[u8], at: u64, end: u64) -> Token
 
 // ---- tags
 
-// The quote after a byte; 0 outside quotes.
-fn quote_after(q: u64, b: u64) -> u64
-    ensures { λ r. ⌜ r ≡ quoteAfter q b ⌝ }
+// Behind the quote q that closes the stretch from at on; end where none does.
+fn behind_quote(s: &[u8], at: u64, end: u64, q: u64) -> u64
+    requires { ⌜ (at ≤ end) × (end ≤ length (now s)) × (0 < q) ⌝ }
+    ensures { λ r. ⌜ Unquoted (now (s .entry)) at end q r ⌝ }
 {
-    if q == 0 {
-        if b == 34 {
-            return b;
-        }
-        if b == 39 {
-            return b;
-        }
-        return 0;
+    let mark = stretches::quote_end(s, at, end, q);
+    if mark == end {
+        return end;
     }
-    if b == q {
-        return 0;
-    }
-    q
+    mark + 1
 }
 
-// Whether a byte is that mark and stands outside quotes.
-fn is_outside(q: u64, b: u64, mark: u64) -> bool
-    ensures { λ r. ⌜ r ≡ (eqb q 0 && eqb b mark) ⌝ }
+// Behind the byte b of a start tag, which stands at i outside quotes and isn't the last: behind all that it encloses where it is a quote.
+fn behind_byte(s: &[u8], i: u64, end: u64, b: u64) -> u64
+    requires { ⌜ (i < end) × (end ≤ length (now s)) × (b ≡ getD (now s) i 0) ⌝ }
+    ensures { λ r. ⌜ Past (now (s .entry)) i end b r ⌝ }
 {
-    if q != 0 {
-        return false;
+    if b == 34 {
+        return behind_quote(s, i + 1, end, b);
     }
-    b == mark
+    if b == 39 {
+        return behind_quote(s, i + 1, end, b);
+    }
+    i + 1
 }
 
 // A start tag, or an empty-element tag: `/` was the last byte before its `>`.
@@ -92,20 +89,18 @@ fn tag_end(s: &[u8], from: u64, at: u64, end: u64) -> Token
     requires { ⌜ (from ≤ at) × (at ≤ end) × (end ≤ length (now s)) ⌝ }
     ensures { λ r. ⌜ Stands (now (s .entry)) from end (tagBehind (stretch (now (s .entry)) from at) (stretch (now (s .entry)) at end)) r ⌝ }
 {
-    let mut q: u64 = 0;
     let mut last: u64 = 0;
     let mut i = at;
     while i < end {
         let b = fields::byte_at(s, i);
-        if is_outside(q, b, 62) {
+        if b == 62 {
             return tag_of(last, from, at - from, i + 1);
         }
-        if is_outside(q, b, 60) {
+        if b == 60 {
             return Token::Broken;
         }
-        q = quote_after(q, b);
         last = b;
-        i += 1;
+        i = behind_byte(s, i, end, b);
     }
     Token::Broken
 }

@@ -7,10 +7,10 @@ use Rattle.markup.proofs.items.tag_end.Statement.{statement}
 use Rattle.markup.proofs.items.tag_end.Tie as tie
 
 abbrev Inv-loop : tie.InvT-loop
-Inv-loop s from at end q₀ last₀ i₀ q last i = Tagging s at end q last i
+Inv-loop s from at end last₀ i₀ last i = Tagging s at end last i
 
 abbrev μ-loop : tie.MeasureT-loop
-μ-loop s from at end q₀ last₀ i₀ q last i = end - i
+μ-loop s from at end last₀ i₀ last i = end - i
 
 returns : tie.Need-returns Inv-loop μ-loop
 returns c = search tag-ended
@@ -19,13 +19,7 @@ returns-2 : tie.Need-returns-2 Inv-loop μ-loop
 returns-2 c = search tag-broken
 
 loop-again : tie.Need-loop-again Inv-loop μ-loop
-loop-again c =
-    let first = c .before .before .before .before in
-    let second = c .before .before in
-    let b = first .before in
-    let l = b .before .before in
-    tagging-next _ _ _ _ _ _ (l .loop .inv) (omega arith) _ (b .byte-at .ensures .0) (omega arith) _ _ _
-    (first .is-outside .ensures) (second .is-outside2 .ensures) (c .before .before .before .if1 .left) (c .before .if2 .left) (c .quote-after .ensures)
+loop-again c = search tagging-next
 
 pub tag-end-spec : {M : Type 1} → statement M
 tag-end-spec =
@@ -35,15 +29,12 @@ tag-end-spec =
     μ-loop
     (λ c. search tagging-start)
     (λ c κs. search needs)
-    (λ c κs. search needs)
     (λ c. omega arith)
     (λ c. omega arith)
     (λ c κs. search needs)
     returns
-    (λ c κs. search needs)
     returns-2
     (λ c κs. search needs)
-    (λ c. omega arith)
-    (λ c. omega arith)
+    (λ c. omega (arith, c .behind-byte .ensures .from))
     loop-again
     (λ c. search tag-cut))

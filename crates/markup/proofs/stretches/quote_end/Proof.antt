@@ -1,0 +1,35 @@
+-- `markup::stretches::quote_end` meets its contract.
+use Prim.Native.Nat.{_-_}
+use borrow.Author.Needs.{needs}
+use native.Mathlib.Omega.{arith}
+use Rattle.markup.specs.Stretches.{notQuote}
+use Rattle.markup.proofs.Classes.{quote-goes, quote-stops}
+use Rattle.markup.proofs.Stretching.{Passing, passing-start, passing-next, passed-here, passed-all}
+use Rattle.markup.proofs.stretches.quote_end.Statement.{statement}
+use Rattle.markup.proofs.stretches.quote_end.Tie as tie
+
+abbrev Inv-loop : tie.InvT-loop
+Inv-loop s at end q i₀ i = Passing (notQuote q) s at end i
+
+abbrev μ-loop : tie.MeasureT-loop
+μ-loop s at end q i₀ i = end - i
+
+returns : tie.Need-returns Inv-loop μ-loop
+returns c = search (passed-here, quote-stops)
+
+loop-again : tie.Need-loop-again Inv-loop μ-loop
+loop-again c = search (passing-next, quote-goes)
+
+pub quote-end-spec : {M : Type 1} → statement M
+quote-end-spec =
+    tie.close
+    (tie.spec
+    Inv-loop
+    μ-loop
+    (λ c. search passing-start)
+    (λ c κs. search needs)
+    returns
+    (λ c. omega arith)
+    (λ c. omega arith)
+    loop-again
+    (λ c. search passed-all))
