@@ -53,8 +53,9 @@
  *   15 copy             A sub-block or an attachment has no room for its fixed part, or its copy of the entry differs.
  *   16 sizes            A sub-block's or an attachment's sizes are negative or do not fit its room, or a tile's pixels
  *                       are not stored width * stored height * bytes a pixel.
- *   17 chunk            In an attachment of a tile that is said to hold chunks, a chunk's header is cut, its size is
- *                       negative, or it ends past the attachment. Of 17 and 18 the place is the chunk's header.
+ *   17 chunk            In an attachment of a tile whose metadata declare that it holds chunks (docs/RULES.md, 5), a
+ *                       chunk's header is cut, its size is negative, or it ends past the attachment. Of 17 and 18 the
+ *                       place is the chunk's header.
  *   18 mask             A tile's mask is under 16 bytes, has a negative width, height or stride, a representation that
  *                       is not 0, lines shorter than its width or more of them than its chunk holds; or it is the
  *                       tile's second.

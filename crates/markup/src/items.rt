@@ -2,11 +2,8 @@
 use crate::Token;
 use crate::stretches;
 ghost use mathlib.Core.Path.{_≡_};
-ghost use mathlib.Core.Bool.{_&&_};
-ghost use Prim.Native.Nat.{_+_, _-_, _<_, _≤_};
+ghost use Prim.Native.Nat.{_<_, _≤_};
 ghost use lib.ListN.{length, getD};
-ghost use lib.Dec.{eqb};
-ghost use Rattle.format.specs.Bytes.{partOf};
 ghost use Rattle.format.specs.Markup.{beginsName, tagAt, endTagAt, itemAt};
 ghost use Rattle.markup.specs.Stretches.{stretch};
 ghost use Rattle.markup.specs.Tokens.{Stands, Unquoted, Past, tagToken, tagBehind, skippedBehind, declarationAt};
@@ -60,7 +57,7 @@ fn behind_quote(s: &[u8], at: u64, end: u64, q: u64) -> u64
     mark + 1
 }
 
-// Behind the byte b of a start tag, which stands at i outside quotes and isn't the last: behind all that it encloses where it is a quote.
+// Behind the byte b of a start tag, which stands at i outside quotes and doesn't end it: behind all that it encloses where it is a quote.
 fn behind_byte(s: &[u8], i: u64, end: u64, b: u64) -> u64
     requires { ⌜ (i < end) × (end ≤ length (now s)) × (b ≡ getD (now s) i 0) ⌝ }
     ensures { λ r. ⌜ Past (now (s .entry)) i end b r ⌝ }
@@ -105,7 +102,7 @@ fn tag_end(s: &[u8], from: u64, at: u64, end: u64) -> Token
     Token::Broken
 }
 
-// Whether the bytes from at up to stop are a name: there is one, and the first isn't `!`.
+// Whether the bytes from at up to stop begin as a name does: there is one, and the first isn't `!`.
 fn begins_name(s: &[u8], at: u64, stop: u64) -> bool
     requires { ⌜ (at ≤ stop) × (stop ≤ length (now s)) ⌝ }
     ensures { λ r. ⌜ r ≡ beginsName (stretch (now (s .entry)) at stop) ⌝ }

@@ -3,7 +3,7 @@ use crate::Token;
 use crate::items;
 ghost use mathlib.Core.Path.{_≡_};
 ghost use mathlib.Core.Bool.{_||_};
-ghost use Prim.Native.Nat.{_+_, _<_, _≤_};
+ghost use Prim.Native.Nat.{_+_, _≤_};
 ghost use lib.ListN.{length};
 ghost use lib.Dec.{eqb};
 ghost use Rattle.format.specs.Bytes.{partOf};
@@ -11,7 +11,7 @@ ghost use Rattle.format.specs.Container.{sameBytes, inSection, startStage, text
 ghost use Rattle.markup.specs.Stretches.{stretch};
 ghost use Rattle.markup.specs.Open.{Lie, openNames};
 
-// Whether the length bytes from a place on are those of name.
+// Whether the count bytes from a place on are those of name.
 fn is_named(s: &[u8], from: u64, count: u64, name: &[u8]) -> bool
     requires { ⌜ from + count ≤ length (now s) ⌝ }
     ensures { λ r. ⌜ r ≡ sameBytes (partOf (now (s .entry)) from count) (now (name .entry)) ⌝ }
