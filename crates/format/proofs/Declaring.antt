@@ -10,7 +10,7 @@ use Rattle.format.specs.Bytes.{partOf}
 use Rattle.format.specs.Names.{tagMetadata, tagSchema, tagFormat, textContainer}
 use Rattle.format.specs.Markup.{Item, readsAs}
 use Rattle.format.specs.Container.{Nodes, nothing, words, emptyTag, passed, element, Child, Declares, Container}
-use Rattle.format.specs.Container.{sameBytes, inSection, declares, isContainer}
+use Rattle.format.specs.Container.{sameBytes, inSection, startStage, textStage, declares, isContainer}
 use Rattle.format.proofs.Below.{by-bool, and-both}
 use Rattle.format.proofs.Markup.{reads-iff}
 use Rattle.format.proofs.Nesting.{same-own, same-is, stageOf, isSection, hasSection, nodes-end, ends-nodes}
@@ -19,7 +19,7 @@ use Rattle.format.proofs.Nesting.{same-own, same-is, stageOf, isSection
 
 -- nothing comes of stage 0
 stage-none : (c : Nodes) → stageOf 0 c ≡ 0
-unfolding stageOf
+unfolding stageOf textStage
 stage-none nothing = refl
 stage-none (words bs c) = stage-none c
 stage-none (emptyTag c) = stage-none c
@@ -32,7 +32,7 @@ not-ended c e = true≢false (sym e ∙ rw (stage-none c))
 
 -- behind the text stands nothing
 ended-text : (c : Nodes) → eqb (stageOf 2 c) 2 ≡ true → c ≡ nothing
-unfolding stageOf
+unfolding stageOf textStage
 ended-text nothing e = refl
 ended-text (words bs c) e = absurd (not-ended c e)
 ended-text (emptyTag c) e = absurd (not-ended c e)
@@ -41,7 +41,7 @@ ended-text (element name inner c) e = absurd (not-ended c e)
 
 -- behind the last start tag stands the text alone
 ended-tag : (c : Nodes) → eqb (stageOf 1 c) 2 ≡ true → c ≡ words textContainer nothing
-unfolding stageOf
+unfolding stageOf textStage
 ended-tag nothing e = absurd (true≢false (sym e))
 ended-tag (words bs c) e =
     by-bool (sameBytes bs textContainer)
@@ -53,13 +53,13 @@ ended-tag (element name inner c) e = absurd (not-ended c e)
 
 -- an element that is the section has its three names open and its text alone
 section-is : (names : List (List ℕ)) (inner : Nodes) → isSection names inner ≡ true → (inSection names ≡ true) × (inner ≡ words textContainer nothing)
-unfolding isSection
+unfolding isSection startStage
 section-is names inner e =
     by-bool (inSection names) (λ s. (s, ended-tag inner (rw s at e))) (λ s. absurd (not-ended inner (rw s at e)))
 
 -- an element with them is the section
 is-section : (names : List (List ℕ)) → inSection names ≡ true → isSection names (words textContainer nothing) ≡ true
-unfolding isSection stageOf
+unfolding isSection stageOf startStage textStage
 is-section names e = rw (e, same-own textContainer)
 
 -- ---- in which element it stands
@@ -95,7 +95,7 @@ child-in names (element n d c) name inner (inr h) e = rw (child-in names c name 
 
 -- nothing deeper than three open tags holds it
 deep : (a b c : List ℕ) (names : List (List ℕ)) (x : Nodes) → hasSection (a ∷ b ∷ c ∷ names) x ≡ false
-unfolding hasSection isSection inSection
+unfolding hasSection isSection startStage inSection
 deep a b c names nothing = refl
 deep a b c names (words bs x) = deep a b c names x
 deep a b c names (emptyTag x) = deep a b c names x
@@ -105,7 +105,7 @@ deep a b c names (element n d x) = rw (deep n a b (c ∷ names) d, stage-none d)
 -- an element that is not the section holds it
 inner-holds : (names : List (List ℕ)) (name : List ℕ) (inner : Nodes) → inSection (name ∷ names) ≡ false → Holds names name inner
     → hasSection (name ∷ names) inner ≡ true
-unfolding isSection
+unfolding isSection startStage
 inner-holds names name inner s e =
     let n : isSection (name ∷ names) inner ≡ false = rw (s, stage-none inner) in
     sym (or-false (hasSection (name ∷ names) inner)) ∙ (rw n at e)

@@ -2,15 +2,14 @@
 use Prim.Native.Nat.{ℕ, zero, suc, _+_}
 use mathlib.Core.Path.{_≡_, refl, sym, _∙_, ap}
 use mathlib.Core.List.{List, [], _∷_, _++_, append-nil, append-assoc}
-use mathlib.Core.Bool.{Bool, true, false, cond, _&&_, _||_, or-false, or-assoc, true≢false}
+use mathlib.Core.Bool.{Bool, true, false, _||_, or-false, or-assoc, true≢false}
 use native.Mathlib.Omega.{arith}
 use lib.ListN.{length}
 use lib.Dec.{eqb}
 use borrow.Author.Tests.{lt-ltb, le-ltb, eq-eqb, eqb-true}
-use Rattle.format.specs.Names.{textContainer}
 use Rattle.format.specs.Markup.{Item, start, close, empty, text, skipped}
 use Rattle.format.specs.Container.{Nodes, nothing, words, emptyTag, passed, element, itemsOf, AtMost}
-use Rattle.format.specs.Container.{sameBytes, inSection, startStage, textStage, endsWell}
+use Rattle.format.specs.Container.{sameBytes, startStage, textStage, endsWell}
 use Rattle.format.proofs.Below.{by-bool, and-both}
 
 -- ---- byte strings
@@ -36,14 +35,14 @@ same-is (x ∷ xs) (y ∷ ys) e =
 -- how much of the section's end has come after them
 unfoldable pub stageOf : ℕ → Nodes → ℕ
 stageOf stage nothing = stage
-stageOf stage (words bs c) = stageOf (cond (eqb stage 1 && sameBytes bs textContainer) 2 0) c
+stageOf stage (words bs c) = stageOf (textStage stage bs) c
 stageOf stage (emptyTag c) = stageOf 0 c
 stageOf stage (passed c) = stageOf 0 c
 stageOf stage (element name inner c) = stageOf 0 c
 
 -- an element is the section: the names of the open tags, its own first, and its nodes
 unfoldable pub isSection : List (List ℕ) → Nodes → Bool
-isSection names inner = eqb (stageOf (cond (inSection names) 1 0) inner) 2
+isSection names inner = eqb (stageOf (startStage names) inner) 2
 
 -- there is a section in them
 unfoldable pub hasSection : List (List ℕ) → Nodes → Bool
@@ -56,14 +55,14 @@ hasSection names (element name inner c) = hasSection (name ∷ names) inner || i
 -- the items of nodes are passed
 nodes-passed : (c : Nodes) (k : ℕ) (found : Bool) (stage : ℕ) (names : List (List ℕ)) (rest : List Item) → AtMost k c → length names + k ≡ 64
     → endsWell found stage names (itemsOf c ++ rest) ≡ endsWell (found || hasSection names c) (stageOf stage c) names rest
-unfolding endsWell startStage textStage stageOf isSection hasSection
+unfolding endsWell stageOf isSection hasSection
 nodes-passed nothing k found stage names rest h l = rw (or-false found)
 nodes-passed (words bs c) k found stage names rest h l = nodes-passed c k found _ names rest h l
 nodes-passed (emptyTag c) k found stage names rest h l = nodes-passed c k found 0 names rest h l
 nodes-passed (passed c) k found stage names rest h l = nodes-passed c k found 0 names rest h l
 nodes-passed (element name inner c) zero found stage names rest h l = absurd h
 nodes-passed (element name inner c) (suc k) found stage names rest h l =
-    let s : ℕ = cond (inSection (name ∷ names)) 1 0 in
+    let s : ℕ = startStage (name ∷ names) in
     let x : Bool = hasSection (name ∷ names) inner in
     let y : Bool = isSection (name ∷ names) inner in
     rw (lt-ltb (length names) 64 (omega arith), append-assoc (itemsOf inner) (close name ∷ itemsOf c) rest)

@@ -71,7 +71,8 @@ pub record Entry (sc : Scan) (segments : List ℕ) (d e : ℕ) : Type 0 where
   pub names : Names (blockFile sc e) segments (filePosition (sc .file) e) nameSubBlock
   pub block : subBlockBad (sc .file) e (blockFile sc e) (filePosition (sc .file) e) ≡ false
   pub contents : contentsBad (sc .file) e (blockFile sc e) (filePosition (sc .file) e) ≡ false
-  pub container : DeclaresChunks (sc .file) e (blockFile sc e) (filePosition (sc .file) e) → ChunksFill (sc .file) e (blockFile sc e) (filePosition (sc .file) e)
+  pub container : DeclaresChunks (sc .file) e (blockFile sc e) (filePosition (sc .file) e)
+      → ChunksFill (sc .file) e (blockFile sc e) (filePosition (sc .file) e)
 
 -- ---- an entry A1 at e, and its attachment
 
