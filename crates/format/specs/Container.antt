@@ -1,4 +1,5 @@
--- Which metadata declare a chunk container: an outermost METADATA, in it AttachmentSchema, in that DataFormat, and in that CHUNKCONTAINER alone.
+-- Which metadata declare a chunk container: all of them read and nest, with at most 64 tags open at once, and the section stands in them: an outermost
+-- METADATA, directly in it AttachmentSchema, directly in that DataFormat, and in that CHUNKCONTAINER alone.
 -- It is said twice: `Container` is a relation, by the elements that the items make up; `isContainer` is the function that contracts cite, with the names
 -- of the open tags. The two agree (proofs/Declaring).
 use Prim.Native.Nat.{ℕ, zero, suc}
@@ -80,7 +81,7 @@ inSection (a ∷ b ∷ []) = false
 inSection (a ∷ b ∷ c ∷ []) = sameBytes a tagFormat && sameBytes b tagSchema && sameBytes c tagMetadata
 inSection (a ∷ b ∷ c ∷ d ∷ names) = false
 
--- the stage: 1 just behind the section's last start tag, 2 just behind the text that follows it, else 0
+-- the stage: 1 just behind the section's last start tag, 2 just behind CHUNKCONTAINER where that is the text that follows it, else 0
 
 -- behind a start tag, which is the first of the open ones
 unfoldable pub startStage : List (List ℕ) → ℕ
@@ -90,8 +91,8 @@ startStage names = cond (inSection names) 1 0
 unfoldable pub textStage : ℕ → List ℕ → ℕ
 textStage stage bs = cond (eqb stage 1 && sameBytes bs textContainer) 2 0
 
--- whether there was a section, the stage, and the names of the open tags, innermost first: the items that follow close all of them in turn, with at
--- most 64 open at once, and there was a section or is one among them
+-- whether there was a section, the stage, and the names of the open tags, innermost first: the items that follow close all of them in turn, open none
+-- where 64 are open, and there was a section or one ends among them
 unfoldable pub endsWell : Bool → ℕ → List (List ℕ) → List Item → Bool
 endsWell found stage [] [] = found
 endsWell found stage (n ∷ names) [] = false

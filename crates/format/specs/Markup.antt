@@ -1,6 +1,7 @@
 -- The markup of a sub-block's metadata: the items that its bytes read as. It is said twice: `Reads` is a relation with
 -- a rule for each kind of item; `readsAs` is a function, the one that `isContainer` (specs/Container) goes by. They agree and leave no choice
--- (proofs/Markup). Bytes by their numbers: white space 9, 10, 13, 32; `!` 33, `"` 34, `'` 39, `-` 45, `/` 47, `<` 60, `>` 62, `?` 63, `[` 91, `]` 93.
+-- (proofs/Markup). Bytes by their numbers: white space 9, 10, 13, 32; `!` 33, `"` 34, `'` 39, `-` 45, `/` 47, `<` 60, `>` 62, `?` 63, `[` 91, `]` 93;
+-- CDATA 67, 68, 65, 84, 65.
 use Prim.Native.Nat.{ℕ, zero, suc}
 use mathlib.Core.Path.{_≡_}
 use mathlib.Core.List.{List, [], _∷_, _++_}
@@ -35,7 +36,7 @@ textByte b = not (eqb b 60)
 unfoldable pub quote : ℕ → Bool
 quote b = anyOf (eqb b 34 ∷ eqb b 39 ∷ [])
 
--- between a start tag's name and its `>`, outside quotes, `<` doesn't stand
+-- between the name of a start tag or an empty-element tag and its `>`, outside quotes: neither a quote nor `<` nor `>`
 unfoldable pub bareByte : ℕ → Bool
 bareByte b = not (anyOf (quote b ∷ eqb b 60 ∷ eqb b 62 ∷ []))
 
@@ -84,7 +85,7 @@ slashed [] = false
 slashed (b ∷ []) = eqb b 47
 slashed (b ∷ c ∷ bs) = slashed (c ∷ bs)
 
--- a start tag, or an empty-element tag: `/` stands just before its `>`. `<?` begins no tag
+-- a start tag, or an empty-element tag, in which `/` stands just before its `>`. `<?` begins neither
 pub record Tag (isEmpty : Bool) (name bs rest : List ℕ) : Type 0 where
   pub name-right : Name name
   pub not-skipped : FirstByte (λ b. not (eqb b 63)) name

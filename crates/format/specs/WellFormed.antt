@@ -41,7 +41,7 @@ pub record Segment (bs : List ℕ) (p : ℕ) : Type 0 where
 abbrev pub Names : List ℕ → List ℕ → ℕ → List ℕ → Type 0
 Names bs segments q name = Among q segments × (sameAt bs q name ≡ true)
 
--- ---- chunks: they fill the attachment from a to end exactly, and at most one is a mask
+-- ---- chunks: they fill the attachment from a to end exactly, each is right, and at most one is a mask
 
 pub record Chunks (bs : List ℕ) (a end : ℕ) : Type 0 where
   pub chunks : List ℕ
@@ -54,7 +54,7 @@ pub record Chunks (bs : List ℕ) (a end : ℕ) : Type 0 where
 abbrev pub DeclaresChunks : List ℕ → ℕ → List ℕ → ℕ → Type 0
 DeclaresChunks ds e bs q = Container (partOf bs (metadataPlace ds e q) (metadataSize bs q))
 
--- its attachment is filled by its chunks
+-- its attachment is filled by right chunks
 abbrev pub ChunksFill : List ℕ → ℕ → List ℕ → ℕ → Type 0
 ChunksFill ds e bs q = Chunks bs (attachmentPlace ds e bs q) (attachmentPlace ds e bs q + attachmentSize bs q)
 
