@@ -1,6 +1,7 @@
 """The listing of papers 01 and 02, read straight from their text and apart from the crates.
 
-As a program it lists standard input. It is plain on purpose: the papers' sentences in their order.
+As a program it lists standard input, by release 1.2 or by the one that is named: 1.02. It is plain on purpose: the papers'
+sentences in their order.
 """
 import re
 import struct
@@ -64,11 +65,16 @@ class Segment:
         self.room = used if used != 0 else allocated
 
 
-class Reading:
-    """One file's reading. Raises Refused, or holds the figures of the listing."""
+RELEASES = ["1.2", "1.02"]
 
-    def __init__(self, file):
-        self.file = file
+
+class Reading:
+    """One file's reading by a release. Raises Refused, or holds the figures of the listing."""
+
+    def __init__(self, file, release="1.2"):
+        if release not in RELEASES:
+            raise ValueError(f"there is no release {release!r}")
+        self.file, self.release = file, release
         self.segments = {}  # by position
         self.tiles = []     # (X, Y) as (start, size, stored size)
         self.attachments = 0
@@ -155,7 +161,8 @@ class Reading:
         refuse(fixed + metadata + data + attachment > block.room, 16, block.at)
         refuse(data != x[2] * y[2] * BYTES_A_PIXEL[pixel_type], 16, block.at)
         start = block.body + fixed
-        if declares_container(self.file[start:start + metadata]):
+        # By 02, Req 05, every attachment is plain bytes under 1.02.
+        if self.release == "1.2" and declares_container(self.file[start:start + metadata]):
             start += metadata + data
             self.chunks(start, start + attachment)
         self.tiles.append((x, y))
@@ -216,15 +223,15 @@ class Reading:
         self.attachments = count
 
 
-def listing(file):
+def listing(file, release="1.2"):
     """The listing's text, as bytes."""
-    return b"refused=30\nplace=0\n" if len(file) > 65536 else figures(file)
+    return b"refused=30\nplace=0\n" if len(file) > 65536 else figures(file, release)
 
 
-def figures(file):
+def figures(file, release="1.2"):
     """The same text for a file of any size."""
     try:
-        read = Reading(file)
+        read = Reading(file, release)
     except Refused as r:
         return b"refused=%d\nplace=%d\n" % (r.number, r.place)
     whole = [(x, y) for x, y in read.tiles if x[1] == x[2] and y[1] == y[2]]
@@ -238,4 +245,4 @@ def figures(file):
 
 
 if __name__ == "__main__":
-    sys.stdout.buffer.write(listing(sys.stdin.buffer.read()))
+    sys.stdout.buffer.write(listing(sys.stdin.buffer.read(), *sys.argv[1:2]))

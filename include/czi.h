@@ -4,11 +4,19 @@
  * checked before a call, and no call changes a byte of the file. Lent to be written are a target, a map, marks and the
  * arrays of records: a refused call changes none of them.
  *
+ * release is that of the format by which the file is judged: CZI_RELEASE_1_2, or CZI_RELEASE_1_02, which has no chunk
+ * containers. Use the names CZI_RELEASE_1_2 and CZI_RELEASE_1_02: any other number is 1.2, 102 too. The caller says it,
+ * and no byte of the file does. Under 1.02 the attachment of every tile is plain bytes, whatever its metadata say: 17 and
+ * 18 are never given, no tile has a mask, and masks on is the same as masks off. So only a file that was archived under
+ * 1.02 is judged by it: the masks of any other would be forgotten. Unless 1.2 gives 17 or 18, both releases give any
+ * bytes the same number and place. Where it does, 1.02 goes on: it accepts the file, or gives what comes later in the
+ * order below.
+ *
  * Every function with a file but czi_list returns the number of the refusal, 0 where there is none. A single number
  * behind an out-pointer is part of the answer: it is written always, and is 0 where there is nothing to say.
  *   place   where the refusal is, as a byte offset in the file; 0 where there is none.
- * Each question judges the whole file first: a file that czi_judge refuses is refused so by all of them (but that
- * czi_list looks at the length before).
+ * Each question judges the whole file first: a file that czi_judge refuses is refused so by all of them under the same
+ * release (but that czi_list looks at the length before).
  *
  * What a caller owes, which nothing here tests:
  *   - No pointer is NULL, not even that of a file of length 0: CZI_NONE is a pointer for what has no length.
@@ -53,12 +61,12 @@
  *   15 copy             A sub-block or an attachment has no room for its fixed part, or its copy of the entry differs.
  *   16 sizes            A sub-block's or an attachment's sizes are negative or do not fit its room, or a tile's pixels
  *                       are not stored width * stored height * bytes a pixel.
- *   17 chunk            In an attachment of a tile whose metadata declare that it holds chunks (docs/RULES.md, 5), a
- *                       chunk's header is cut, its size is negative, or it ends past the attachment. Of 17 and 18 the
- *                       place is the chunk's header.
- *   18 mask             A tile's mask is under 16 bytes, has a negative width, height or stride, a representation that
- *                       is not 0, lines shorter than its width or more of them than its chunk holds; or it is the
- *                       tile's second.
+ *   17 chunk            Under 1.2 alone. In an attachment of a tile whose metadata declare that it holds chunks
+ *                       (docs/RULES.md, 5), a chunk's header is cut, its size is negative, or it ends past the
+ *                       attachment. Of 17 and 18 the place is the chunk's header.
+ *   18 mask             Under 1.2 alone. A tile's mask is under 16 bytes, has a negative width, height or stride, a
+ *                       representation that is not 0, lines shorter than its width or more of them than its chunk
+ *                       holds; or it is the tile's second.
  *   20 window           Of a composer: a side is not 1 to 65,536, or the right or bottom edge is above 2,147,483,647.
  *   21 asked pixel      Of a composer: there is no such pixel type, or the background is not one pixel long.
  *   22 lent too short   Of a composer: the target or the map is too short. Of czi_tiles, czi_dimensions and czi_chosen: an
@@ -77,7 +85,7 @@
  *
  * C99 or later, or C++. Linked, where ./install has put it into PREFIX, as
  *   cc yours.c $(pkg-config --cflags --libs czi) -Wl,-rpath,PREFIX/lib
- * or without -rpath where the loader finds libczi.so.1 (LD_LIBRARY_PATH, ldconfig); or, beside the sources, built by
+ * or without -rpath where the loader finds libczi.so.2 (LD_LIBRARY_PATH, ldconfig); or, beside the sources, built by
  * `rt staticlib czi` and linked as  cc -Iinclude yours.c target/staticlib/libczi.a
  */
 #ifndef CZI_H
@@ -88,7 +96,7 @@
 
 /* The number of this interface, which is that of the shared library's soname too. It rises when a declaration that was
  * here changes, an array's length too; not when one is added. A program may compare it with what czi_version gives. */
-#define CZI_VERSION 1
+#define CZI_VERSION 2
 
 #ifdef __cplusplus
 extern "C" {
@@ -104,10 +112,13 @@ uint32_t czi_version(void);
  *   1 Gray16: 2       3 Bgr24: 3        8 BgrFloat: 12     10 GrayComplex: 8 */
 uint32_t czi_pixel_bytes(uint32_t pixel_type);
 
-/* ---- With a file. */
+/* ---- With a file, judged by a release. */
+
+/* The releases. Use these names: any other number is 1.2, 102 too. */
+enum { CZI_RELEASE_1_2 = 0, CZI_RELEASE_1_02 = 1 };
 
 /* The verdict on a file. */
-uint32_t czi_judge(const uint8_t *file, size_t file_len, uint64_t *place);
+uint32_t czi_judge(const uint8_t *file, size_t file_len, uint32_t release, uint64_t *place);
 
 /* ---- Parts of the file: the length bytes from start on, file + start in the lent file.
  *
@@ -115,25 +126,25 @@ uint32_t czi_judge(const uint8_t *file, size_t file_len, uint64_t *place);
  * entry counts the entries of the sub-block directory from 0; 24 where there is no such entry. */
 
 /* The pixels of a tile. */
-uint32_t czi_tile_pixels(const uint8_t *file, size_t file_len, uint64_t entry,
+uint32_t czi_tile_pixels(const uint8_t *file, size_t file_len, uint32_t release, uint64_t entry,
                          uint64_t *place, uint64_t *start, uint64_t *length);
 
 /* The metadata of its sub-block. */
-uint32_t czi_tile_metadata(const uint8_t *file, size_t file_len, uint64_t entry,
+uint32_t czi_tile_metadata(const uint8_t *file, size_t file_len, uint32_t release, uint64_t entry,
                            uint64_t *place, uint64_t *start, uint64_t *length);
 
 /* The attachment of its sub-block. */
-uint32_t czi_tile_attachment(const uint8_t *file, size_t file_len, uint64_t entry,
+uint32_t czi_tile_attachment(const uint8_t *file, size_t file_len, uint32_t release, uint64_t entry,
                              uint64_t *place, uint64_t *start, uint64_t *length);
 
 /* The data of an attachment. entry counts the entries of the attachment directory. */
-uint32_t czi_attachment_data(const uint8_t *file, size_t file_len, uint64_t entry,
+uint32_t czi_attachment_data(const uint8_t *file, size_t file_len, uint32_t release, uint64_t entry,
                              uint64_t *place, uint64_t *start, uint64_t *length);
 
 /* The common XML and its attachment. Without a metadata segment they are empty and not refused. */
-uint32_t czi_common_xml(const uint8_t *file, size_t file_len,
+uint32_t czi_common_xml(const uint8_t *file, size_t file_len, uint32_t release,
                         uint64_t *place, uint64_t *start, uint64_t *length);
-uint32_t czi_common_attachment(const uint8_t *file, size_t file_len,
+uint32_t czi_common_attachment(const uint8_t *file, size_t file_len, uint32_t release,
                                uint64_t *place, uint64_t *start, uint64_t *length);
 
 /* The record of an attachment: what its entry says, and where its data lie. guid is to CZI_ATTACHMENT_GUID bytes,
@@ -144,7 +155,7 @@ uint32_t czi_common_attachment(const uint8_t *file, size_t file_len,
  * start and length are those of czi_attachment_data. */
 enum { CZI_ATTACHMENT_GUID = 16, CZI_ATTACHMENT_FILE_TYPE = 8, CZI_ATTACHMENT_NAME = 80 };
 
-uint32_t czi_attachment(const uint8_t *file, size_t file_len, uint64_t entry,
+uint32_t czi_attachment(const uint8_t *file, size_t file_len, uint32_t release, uint64_t entry,
                         uint64_t *place, uint8_t *guid, uint8_t *file_type, uint8_t *name,
                         uint64_t *start, uint64_t *length);
 
@@ -170,7 +181,7 @@ enum {
     CZI_TILE_PIXELS_LENGTH = 14,
     CZI_TILE_ATTACHMENT_START = 15,
     CZI_TILE_ATTACHMENT_LENGTH = 16,
-    CZI_TILE_HAS_MASK = 17,          /* 1 or 0; the four that follow are 0 where there is none */
+    CZI_TILE_HAS_MASK = 17,          /* 1 or 0, under 1.02 always 0; the four that follow are 0 where there is none */
     CZI_TILE_MASK_PLACE = 18,        /* where its chunk's header stands; the lines are from 36 bytes later on */
     CZI_TILE_MASK_WIDTH = 19,
     CZI_TILE_MASK_HEIGHT = 20,
@@ -190,7 +201,7 @@ enum {
 };
 
 /* numbers is to CZI_TILE_NUMBERS of them, starts to CZI_TILE_STARTS. */
-uint32_t czi_tile(const uint8_t *file, size_t file_len, uint64_t entry,
+uint32_t czi_tile(const uint8_t *file, size_t file_len, uint32_t release, uint64_t entry,
                   uint64_t *place, uint64_t *numbers, int32_t *starts);
 
 /* The records of all tiles, in the order of the directory: what czi_tile gives for entry k stands in numbers from
@@ -199,7 +210,7 @@ uint32_t czi_tile(const uint8_t *file, size_t file_len, uint64_t entry,
  * 22 where an array is too short for that; longer ones are fine, and what is past the records stays. Arrays for
  * CZI_MOST_TILES tiles are long enough for any file; czi_summary says how many a file has.
  * tiles is how many records were written, 0 where refused. */
-uint32_t czi_tiles(const uint8_t *file, size_t file_len,
+uint32_t czi_tiles(const uint8_t *file, size_t file_len, uint32_t release,
                    uint64_t *numbers, size_t numbers_len, int32_t *starts, size_t starts_len,
                    uint64_t *place, uint64_t *tiles);
 
@@ -207,7 +218,7 @@ uint32_t czi_tiles(const uint8_t *file, size_t file_len,
  *
  * letter is that of A to Z, as 65 to 90; coordinate_bits the 32 bits of StartCoordinate, a 32-bit float, unchanged,
  * which may be a not-a-number; stored the stored size: StoredSize, where 0 is read as Size. */
-uint32_t czi_dimension(const uint8_t *file, size_t file_len, uint64_t entry, uint64_t dimension,
+uint32_t czi_dimension(const uint8_t *file, size_t file_len, uint32_t release, uint64_t entry, uint64_t dimension,
                        uint64_t *place, uint64_t *letter, int32_t *start, uint64_t *size,
                        uint32_t *coordinate_bits, uint64_t *stored);
 
@@ -227,7 +238,7 @@ enum {
  *
  * 22 and arrays as for czi_tiles: there are as many rows as the sum of CZI_TILE_DIMENSIONS over all tiles, at most
  * 16 * CZI_MOST_TILES. dimensions is how many were written, 0 where refused. */
-uint32_t czi_dimensions(const uint8_t *file, size_t file_len,
+uint32_t czi_dimensions(const uint8_t *file, size_t file_len, uint32_t release,
                         uint64_t *numbers, size_t numbers_len, int32_t *starts, size_t starts_len,
                         uint64_t *place, uint64_t *dimensions);
 
@@ -235,7 +246,7 @@ uint32_t czi_dimensions(const uint8_t *file, size_t file_len,
  *
  * has_box is 1 where a tile is no pyramid tile, else 0 and so are the corners. The box is over those tiles,
  * right and bottom exclusive. */
-uint32_t czi_summary(const uint8_t *file, size_t file_len, uint64_t *place,
+uint32_t czi_summary(const uint8_t *file, size_t file_len, uint32_t release, uint64_t *place,
                      uint64_t *bytes, uint64_t *segments, uint64_t *tiles, uint64_t *attachments,
                      uint64_t *has_box, int32_t *left, int32_t *top, int32_t *right, int32_t *bottom);
 
@@ -246,7 +257,7 @@ uint32_t czi_summary(const uint8_t *file, size_t file_len, uint64_t *place,
  * text, 30 for a file of over 65,536 bytes too. */
 enum { CZI_TEXT = 192 };
 
-uint64_t czi_list(const uint8_t *file, size_t file_len, uint8_t *text);
+uint64_t czi_list(const uint8_t *file, size_t file_len, uint32_t release, uint8_t *text);
 
 /* ---- Composing: the pixels of a window of the plane, each from the topmost selected tile that gives it, else the
  * background.
@@ -258,7 +269,8 @@ uint64_t czi_list(const uint8_t *file, size_t file_len, uint8_t *text);
  *              gives the bytes of a pixel.
  * background   one pixel.
  * left, top    the window's corner in the plane; width and height, 1 to 65,536.
- * masks        1 on: a tile gives only its valid pixels. 2 off. Any other number: not chosen, which is off.
+ * masks        1 on: a tile gives only its valid pixels. 2 off. Any other number: not chosen, which is off. Under 1.02
+ *              all of these mean the same, since no tile has a mask.
  * target       width * height pixels row by row, unpadded.
  * map          one bit a pixel in the same order, high bit first: 1 where a tile gave the pixel. The unused bits of its
  *              last byte are 0.
@@ -279,7 +291,7 @@ uint64_t czi_list(const uint8_t *file, size_t file_len, uint8_t *text);
 enum { CZI_MASKS_ON = 1, CZI_MASKS_OFF = 2 };
 
 /* Bottom tile first: stored is the sum of what the selected tiles give in the window, hidden or not. */
-uint32_t czi_compose_plain(const uint8_t *file, size_t file_len,
+uint32_t czi_compose_plain(const uint8_t *file, size_t file_len, uint32_t release,
                            const int32_t *starts, size_t starts_len, uint32_t any_scene,
                            uint32_t pixel_type, const uint8_t *background, size_t background_len,
                            int32_t left, int32_t top, uint32_t width, uint32_t height, uint32_t masks,
@@ -287,7 +299,7 @@ uint32_t czi_compose_plain(const uint8_t *file, size_t file_len,
                            uint64_t *place, uint64_t *covered, uint64_t *stored);
 
 /* Top tile first, each pixel stored at most once: stored is covered. */
-uint32_t czi_compose_quick(const uint8_t *file, size_t file_len,
+uint32_t czi_compose_quick(const uint8_t *file, size_t file_len, uint32_t release,
                            const int32_t *starts, size_t starts_len, uint32_t any_scene,
                            uint32_t pixel_type, const uint8_t *background, size_t background_len,
                            int32_t left, int32_t top, uint32_t width, uint32_t height, uint32_t masks,
@@ -311,7 +323,7 @@ enum {
     CZI_MARK_MEETS = 2               /* selected, and it shares a pixel with the window */
 };
 
-uint32_t czi_chosen(const uint8_t *file, size_t file_len,
+uint32_t czi_chosen(const uint8_t *file, size_t file_len, uint32_t release,
                     const int32_t *starts, size_t starts_len, uint32_t any_scene,
                     int32_t left, int32_t top, uint32_t width, uint32_t height,
                     uint8_t *marks, size_t marks_len,

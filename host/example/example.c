@@ -1,8 +1,10 @@
 /* Lists a CZI file, composes the whole of its box in the type of its first tile, with masks on,
- * and prints how many pixels a tile gave and whether both composers agree.
+ * and prints how many pixels a tile gave and whether both composers agree. The file is judged by
+ * release 1.2 of the format unless 1.02 is named.
  *
  *   cc -Wall -Wextra -Werror -Iinclude host/example/example.c target/staticlib/libczi.a -o example
  *   ./example host/samples/mosaic.czi
+ *   ./example host/samples/mosaic.czi 1.02
  */
 #include <stdio.h>
 #include <stdlib.h>
@@ -40,10 +42,10 @@ static int refused(uint32_t number, uint64_t place) {
 }
 
 /* Composes the box both ways and prints the covered count. */
-static int compose(const uint8_t *file, size_t length) {
+static int compose(const uint8_t *file, size_t length, uint32_t release) {
     uint64_t place, bytes, segments, tiles, attachments, has_box;
     int32_t left, top, right, bottom;
-    uint32_t number = czi_summary(file, length, &place, &bytes, &segments, &tiles, &attachments, &has_box,
+    uint32_t number = czi_summary(file, length, release, &place, &bytes, &segments, &tiles, &attachments, &has_box,
                                   &left, &top, &right, &bottom);
     if (number != 0) return refused(number, place);
     if (!has_box) {
@@ -52,7 +54,7 @@ static int compose(const uint8_t *file, size_t length) {
     }
     uint64_t numbers[CZI_TILE_NUMBERS];
     int32_t starts[CZI_TILE_STARTS];
-    number = czi_tile(file, length, 0, &place, numbers, starts);
+    number = czi_tile(file, length, release, 0, &place, numbers, starts);
     if (number != 0) return refused(number, place);
 
     uint32_t type = (uint32_t)numbers[CZI_TILE_PIXEL_TYPE];
@@ -70,7 +72,7 @@ static int compose(const uint8_t *file, size_t length) {
             return 1;
         }
         number = (quick ? czi_compose_quick : czi_compose_plain)(
-            file, length, CZI_NONE, 0, 1, type, background, pixel, left, top, width, height, CZI_MASKS_ON,
+            file, length, release, CZI_NONE, 0, 1, type, background, pixel, left, top, width, height, CZI_MASKS_ON,
             target[quick], target_length, map[quick], map_length, &place, &covered[quick], &stored[quick]);
         if (number != 0) return refused(number, place);
     }
@@ -87,15 +89,17 @@ static int compose(const uint8_t *file, size_t length) {
 }
 
 int main(int count, char **arguments) {
-    if (count != 2) {
-        fprintf(stderr, "usage: example FILE\n");
+    const char *named = count == 3 ? arguments[2] : "1.2";
+    uint32_t release = strcmp(named, "1.02") == 0 ? CZI_RELEASE_1_02 : CZI_RELEASE_1_2;
+    if (count < 2 || count > 3 || (release == CZI_RELEASE_1_2 && strcmp(named, "1.2") != 0)) {
+        fprintf(stderr, "usage: example FILE [1.02|1.2]\n");
         return 1;
     }
     size_t length;
     uint8_t *file = read_file(arguments[1], &length);
     uint8_t text[CZI_TEXT];
-    fwrite(text, 1, czi_list(file, length, text), stdout);
-    int status = compose(file, length);
+    fwrite(text, 1, czi_list(file, length, release, text), stdout);
+    int status = compose(file, length, release);
     free(file);
     return status;
 }

@@ -19,6 +19,7 @@ use Rattle.format.specs.Masks.{hasChunks}
 use Rattle.format.specs.Directory.{entryCount, roomEnd, tileCount, entryPlace, directoryBad, headRows, tileRows, subBlockRows, attachmentRows, entryRows, directoryRows}
 use Rattle.format.specs.Attachments.{metadataRows, attachmentsRows}
 use Rattle.format.specs.Rules.{checks}
+use Rattle.format.specs.declared.Release.the-variants.{R12}
 use Rattle.format.specs.declared.Verdict.{Verdict}
 use Rattle.format.specs.declared.Verdict.the-variants.{Accepted, Refused}
 use Rattle.plane.specs.Sums.{sum, tab}
@@ -51,7 +52,7 @@ gives v selected meeting marks = record { verdict-is = v; counts = record { sele
 
 abbrev pub answer : Question → Answer
 answer a =
-    let q = sought (a .file) (a .starts) false (a .left) (pos 0) (a .width) (a .height) in
+    let q = sought (a .file) R12 (a .starts) false (a .left) (pos 0) (a .width) (a .height) in
     let v = chosenVerdict q (length (a .lent)) in
     record { verdict-is = v; counts = ifAccepted v (countsOf q) noCounts; marks = ifAccepted v (marksOf q (a .lent)) (a .lent) }
 

@@ -7,14 +7,13 @@ use native.Mathlib.Omega.{arith}
 use lib.ListN.{getD}
 use lib.Dec.{eqb}
 use borrow.Author.Tests.{ne-eqb, eq-eqb, eqb-false, not-true, not-false}
-use Rattle.format.specs.Scan.{scanOf}
 use Rattle.format.specs.Checks.{first, rowsBelow}
 use Rattle.format.specs.Entry.{pixelType}
 use Rattle.format.specs.Directory.{tileCount, entryPlace}
 use Rattle.format.specs.declared.Verdict.the-variants.{Accepted, Refused}
 use Rattle.format.proofs.Firsts.{rows-zero, rows-more, rows-stop}
 use Rattle.subblocks.specs.Judged.{Listed}
-use Rattle.judge.proofs.AcceptedFile.{tiled}
+use Rattle.judge.proofs.AcceptedFile.{tiled-file}
 use Rattle.plane.specs.declared.Rect.{Rect}
 use Rattle.tiles.specs.FileTile.{rectangle, meets}
 use Rattle.question.specs.Question.{typeBad, agreeRow, agreeRows}
@@ -40,16 +39,16 @@ module _ (bs : List ℕ) (w : Rect) (t e : ℕ) where
 
 -- ---- the table's place k
 
-module _ {bs table : List ℕ} (c : Chosen (scanOf bs) table) {n : ℕ} (e : n ≡ tileCount bs) where
+module _ {bs table : List ℕ} (c : Chosen bs table) {n : ℕ} (e : n ≡ tileCount bs) where
   pub table-few : n ≤ 4096
-  table-few = omega (arith, tiled (scanOf bs) (c .accepted) .few)
+  table-few = omega (arith, tiled-file bs (c .accepted) .few)
 
   module _ (k : ℕ) (h : k < n) where
     pub table-place : (getD table k 0 ≡ 0 → ⊥) → getD table k 0 ≡ entryPlace bs k
     table-place i = c .place k (omega arith) (rw (ne-eqb (getD table k 0) 0 i))
 
     pub table-listed : (getD table k 0 ≡ 0 → ⊥) → Listed bs (getD table k 0)
-    table-listed i = rw (table-place i) (tiled (scanOf bs) (c .accepted) .tile k (omega arith) .filled .agreed .placed .listed)
+    table-listed i = rw (table-place i) (tiled-file bs (c .accepted) .listed k (omega arith))
 
     -- the test there is the row's
     row-test : (w : Rect) (t : ℕ) → badAt bs w t (getD table k 0) ≡ cond (chosenIn table k) (typeBad bs w t (entryPlace bs k)) false
@@ -69,7 +68,7 @@ pub record AgreedBelow (bs table : List ℕ) (w : Rect) (t n k : ℕ) : Type 0 w
 pub agree-start : (bs table : List ℕ) (w : Rect) (t n : ℕ) → AgreedBelow bs table w t n 0
 agree-start bs table w t n = record { most = omega arith; none = rows-zero _ }
 
-module _ {bs table : List ℕ} (c : Chosen (scanOf bs) table) {n : ℕ} (e : n ≡ tileCount bs) {w : Rect} {t k : ℕ} (p : AgreedBelow bs table w t n k) where
+module _ {bs table : List ℕ} (c : Chosen bs table) {n : ℕ} (e : n ≡ tileCount bs) {w : Rect} {t k : ℕ} (p : AgreedBelow bs table w t n k) where
   pub agree-next : (r : Bool) → k < n → r ≡ badAt bs w t (getD table k 0) → r ≡ false → AgreedBelow bs table w t n (k + 1)
   agree-next r h i f = record {
     most = omega arith;

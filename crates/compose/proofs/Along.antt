@@ -22,7 +22,8 @@ use Rattle.compose.proofs.KeyTiles.{key-tiles, turn-tiles, turn-order, 
 apart-entry : (ch : Choice) (w : Rect) (k : ℕ) → meets (rectangle (ch .scan .file) (entryPlace (ch .scan .file) k)) w ≡ false → 1 ≤ w .width
     → (p : ℕ) → p < area w → givesAt w (fileTile ch k) p ≡ false
 unfolding fileTile
-apart-entry ch w k e h p l = gives-none (ch .scan .file) (ch .masks) k (tileEntry (ch .scan) k) (tileFile (ch .scan) k) (tilePosition (ch .scan) k) w e h p l
+apart-entry ch w k e h p l =
+    gives-none (ch .scan .file) (ch .masks) k (tileEntry (ch .scan) k) (tileFile (ch .scan) k) (tilePosition (ch .scan) k) (ch .scan .release) w e h p l
 
 module _ (ch : Choice) (table : List ℕ) (w : Rect) where
   apart : (n : ℕ) → n ≤ 4096 → 1 ≤ w .width → Apart w (meetsWindow ch table w) (tilesBelow n ch (chosenIn table))

@@ -9,14 +9,12 @@ use lib.ListN.{length, getD}
 use lib.Dec.{eqb}
 use borrow.Author.Tests.{eqb-true, eqb-false, not-false, not-true}
 use lib.IntN.{ℤ}
-use Rattle.format.specs.Scan.{scanOf}
 use Rattle.format.specs.Choice.{Choice}
 use Rattle.format.specs.Bytes.{allBelow}
 use Rattle.format.specs.Checks.{Check, first, rowsBelow}
 use Rattle.format.specs.Entry.{pixelType, isPyramid}
 use Rattle.format.specs.Directory.{tileCount, entryPlace}
-use Rattle.format.specs.Records.{tileEntry}
-use Rattle.format.specs.Rules.{checks, verdict}
+use Rattle.format.specs.Rules.{checks, verdict, AcceptedFile}
 use Rattle.format.specs.declared.Verdict.{Verdict}
 use Rattle.format.specs.declared.Verdict.the-variants.{Accepted, Refused}
 use Rattle.format.proofs.Firsts.{passed}
@@ -24,7 +22,7 @@ use Rattle.directory.proofs.Stages.{then-stop, then-next}
 use Rattle.plane.specs.declared.Rect.{Rect}
 use Rattle.plane.specs.Turns.{Painting, Kind, compose}
 use Rattle.tiles.specs.FileTile.{rectangle, meets, fileTile, tilesBelow, paints}
-use Rattle.selection.specs.Select.{selects, startsThere, chooses}
+use Rattle.selection.specs.Select.{selects, startsThere}
 use Rattle.selection.specs.Table.{Selection}
 use Rattle.selection.proofs.Chosen.{not-chosen, is-chosen}
 use Rattle.question.specs.Question.{masksOn, typeBad, agreeRow, askRows, agreeRows, requestWindow, windowBad}
@@ -34,49 +32,48 @@ use Rattle.question.specs.declared.Composed.the-variants as Ans
 use Rattle.question.proofs.Accepts.{call-ok}
 use Rattle.question.proofs.Asking.{window-ok, pixel-ok}
 use Rattle.question.proofs.Calls.{room}
-use Rattle.compose.specs.Steps.{chosenIn, Chosen, Edges, PlaneRoom, PlaneDone, Selects, AgreeAnswered, AskAnswered, ExamineAnswered}
+use Rattle.compose.specs.Steps.{chosenIn, Chosen, Edges, PlaneRoom, PlaneDone, startsSelect, Selects, AgreeAnswered, AskAnswered, ExamineAnswered}
 use Rattle.compose.specs.declared.Counts.{Counts}
 use Rattle.compose.proofs.KeyTiles.{tiles-ext}
 
 -- ---- the table of a selection chooses as the starts do
 
-selected-whole : (ch : Choice) (k : ℕ) → chooses ch k ≡ true → isPyramid (ch .scan .file) (tileEntry (ch .scan) k) ≡ false
+selected-whole : (bs : List ℕ) (starts : List ℤ) (anyScene : Bool) (e : ℕ) → selects bs starts anyScene e ≡ true → isPyramid bs e ≡ false
 unfolding selects
-selected-whole ch k h = go (isPyramid (ch .scan .file) (tileEntry (ch .scan) k)) _ h
+selected-whole bs starts anyScene e h = go (isPyramid bs e) _ h
   where
     go : (b s : Bool) → cond b false s ≡ true → b ≡ false
     go true s h = absurd (true≢false (sym h))
     go false s h = refl
 
-module _ (ch : Choice) {before table : List ℕ} {n : ℕ} (accepted : verdict (ch .scan) ≡ Accepted) (size : length before ≡ 4096)
-    (s : Selection (ch .scan .file) (ch .starts) (ch .anyScene) before table n) where
-  here : (k : ℕ) → k < tileCount (ch .scan .file) → k < n
+module _ (bs : List ℕ) (starts : List ℤ) (anyScene : Bool) {before table : List ℕ} {n : ℕ} (accepted : AcceptedFile bs) (size : length before ≡ 4096)
+    (s : Selection bs starts anyScene before table n) where
+  here : (k : ℕ) → k < tileCount bs → k < n
   here k h = rw (s .count-is) h
 
   some : (k : ℕ) → chosenIn table k ≡ true → getD table k 0 ≡ 0 → ⊥
   some k h = eqb-false (getD table k 0) 0 (not-true _ h)
 
-  as-starts : (k : ℕ) → k < tileCount (ch .scan .file) → chosenIn table k ≡ chooses ch k
+  as-starts : (k : ℕ) → k < tileCount bs → chosenIn table k ≡ startsSelect bs starts anyScene k
   as-starts k h = go (eqb (getD table k 0) 0) refl
     where
-      go : (b : Bool) → eqb (getD table k 0) 0 ≡ b → not b ≡ chooses ch k
-      go true e = sym (not-chosen (ch .scan .file) (ch .starts) (ch .anyScene) before table n s k (here k h) (eqb-true (getD table k 0) 0 e))
-      go false e = sym (is-chosen (ch .scan .file) (ch .starts) (ch .anyScene) before table n s k (here k h) (eqb-false (getD table k 0) 0 e) .0)
+      go : (b : Bool) → eqb (getD table k 0) 0 ≡ b → not b ≡ startsSelect bs starts anyScene k
+      go true e = sym (not-chosen bs starts anyScene before table n s k (here k h) (eqb-true (getD table k 0) 0 e))
+      go false e = sym (is-chosen bs starts anyScene before table n s k (here k h) (eqb-false (getD table k 0) 0 e) .0)
 
-  pub selects-table : Selects ch table
+  pub selects-table : Selects bs starts anyScene table
   selects-table = record {
     table-is = record {
       accepted = accepted;
       size = s .size-is ∙ size;
-      place = λ k h c. is-chosen (ch .scan .file) (ch .starts) (ch .anyScene) before table n s k (here k h) (some k c) .1;
-      whole = λ k h c. selected-whole ch k (sym (as-starts k h) ∙ c);
+      place = λ k h c. is-chosen bs starts anyScene before table n s k (here k h) (some k c) .1;
+      whole = λ k h c. selected-whole bs starts anyScene (entryPlace bs k) (sym (as-starts k h) ∙ c);
     };
     as-asked = as-starts;
   }
 
-pub table-chosen : (bs : List ℕ) (starts : List ℤ) (anyScene : Bool) {before table : List ℕ} {n : ℕ} → verdict (scanOf bs) ≡ Accepted → length before ≡ 4096
-    → Selection bs starts anyScene before table n → Chosen (scanOf bs) table
-table-chosen bs starts anyScene a h s = selects-table (record { scan = scanOf bs; starts = starts; anyScene = anyScene; masks = false }) a h s .table-is
+  pub table-chosen : Chosen bs table
+  table-chosen = selects-table .table-is
 
 -- ---- refusal 23 over the table is that over the selection
 
@@ -85,11 +82,11 @@ unfolding rowsBelow
 rows-ext zero f g h = refl
 rows-ext (suc n) f g h = rw (rows-ext n f g (λ k l. h k (omega arith)), h n (omega arith))
 
-pub agreed : (ch : Choice) (f : WindowRequest) {table : List ℕ} {v : Verdict} (w : Rect) → Selects ch table → w ≡ requestWindow f
-    → v ≡ first (agreeRows (ch .scan .file) (chosenIn table) w (f .«pixel_type»)) → AgreeAnswered ch f table v
+pub agreed : (bs : List ℕ) (starts : List ℤ) (anyScene : Bool) (f : WindowRequest) {table : List ℕ} {v : Verdict} (w : Rect) → Selects bs starts anyScene table
+    → w ≡ requestWindow f → v ≡ first (agreeRows bs (chosenIn table) w (f .«pixel_type»)) → AgreeAnswered bs starts anyScene f table v
 unfolding agreeRows
-agreed ch f {table} {v} w s i j = record {
-  verdict-is = rw (← i) (j ∙ ap first (rows-ext (tileCount (ch .scan .file)) _ _ (λ k h. rw (s .as-asked k h))));
+agreed bs starts anyScene f {table} {v} w s i j = record {
+  verdict-is = rw (← i) (j ∙ ap first (rows-ext (tileCount bs) _ _ (λ k h. rw (s .as-asked k h))));
   selects-so = s;
 }
 
@@ -108,13 +105,13 @@ edges-fit {w} v e h =
 refuses-none : {A : Type 0} {n p : ℕ} → Refused n p ≡ Accepted → A
 refuses-none e = let z : _≡_ {A = ℕ} 0 1 = cc in absurd (omega arith)
 
-module _ (ch : Choice) (f : WindowRequest) (background : List ℕ) (target map : ℕ) where
+module _ (bs : List ℕ) (starts : List ℤ) (anyScene : Bool) (f : WindowRequest) (background : List ℕ) (target map : ℕ) where
   pub ask-stops : {table : List ℕ} {n p : ℕ} (v : Verdict) → v ≡ first (askRows f background target map) → v ≡ Refused n p
-      → AskAnswered ch f background target map table (Refused n p)
+      → AskAnswered bs starts anyScene f background target map table (Refused n p)
   ask-stops v h e = record { verdict-is = then-stop v (askRows f background target map) _ _ _ h e; selects-so = λ z. refuses-none z }
 
-  pub ask-passes : {table : List ℕ} {r : Verdict} (v : Verdict) → v ≡ first (askRows f background target map) → v ≡ Accepted → AgreeAnswered ch f table r
-      → AskAnswered ch f background target map table r
+  pub ask-passes : {table : List ℕ} {r : Verdict} (v : Verdict) → v ≡ first (askRows f background target map) → v ≡ Accepted
+      → AgreeAnswered bs starts anyScene f table r → AskAnswered bs starts anyScene f background target map table r
   ask-passes {table} {r} v h e a = record {
     verdict-is = then-next v r (askRows f background target map) _ h e (a .verdict-is);
     selects-so = λ z. a .selects-so;
@@ -132,7 +129,7 @@ module _ (a : Asked) (target map : ℕ) where
   judge-stops v h e = record { verdict-is = then-stop v (checks (a .scan)) _ _ _ h e; selects-so = λ z. refuses-none z }
 
   pub judge-passes : {table : List ℕ} {r : Verdict} (v : Verdict) → v ≡ verdict (a .scan) → v ≡ Accepted
-      → AskAnswered (choiceOf a) (a .request) (a .background) target map table r
+      → AskAnswered (a .scan .file) (a .starts) (a .anyScene) (a .request) (a .background) target map table r
       → ExamineAnswered a target map table r
   unfolding callVerdict verdict
   judge-passes {table} {r} v h e k = record { verdict-is = then-next v r (checks (a .scan)) _ h e (k .verdict-is); selects-so = k .selects-so }
@@ -160,10 +157,12 @@ module _ (a : Asked) (t m : List ℕ) {table : List ℕ} {w : Rect} (v : Verdict
   accepted = sym (x .verdict-is) ∙ y
 
   pub plane-room : PlaneRoom t m (a .scan) table (a .background) w (a .request .«pixel_type»)
+  unfolding verdict
   plane-room =
       let ok = call-ok a (length t) (length m) accepted in
       let p = window-ok (askedWindow a) (ok .window) in
       record {
+        accepted = ok .file;
         chosen = s .table-is;
         edges = edges-fit (askedWindow a) e (ok .window);
         room = rw e (room a t m accepted);
@@ -175,7 +174,7 @@ module _ (a : Asked) (t m : List ℕ) {table : List ℕ} {w : Rect} (v : Verdict
       bs : List ℕ
       bs = a .scan .file
 
-      s : Selects (choiceOf a) table
+      s : Selects (a .scan .file) (a .starts) (a .anyScene) table
       s = x .selects-so y
 
       typed : (k : ℕ) (b c : Bool) → chosenIn table k ≡ b → meets (rectangle (a .scan .file) (entryPlace (a .scan .file) k)) w ≡ c → cond b c false ≡ true

@@ -8,13 +8,12 @@ use native.Mathlib.Numerals.{add-one}
 use lib.ListN.{length, getD}
 use lib.Dec.{eqb}
 use borrow.Author.Tests.{eq-eqb, ne-eqb, eqb-false, not-true, not-false}
-use Rattle.format.specs.Scan.{scanOf}
 use Rattle.format.specs.Directory.{tileCount, entryPlace}
 use Rattle.plane.specs.declared.Rect.{Rect}
 use Rattle.keys.specs.Keys.{insertKey, Rising, Inserted}
 use Rattle.keys.proofs.KeyLaws.{rising-insert}
 use Rattle.subblocks.specs.Judged.{Listed}
-use Rattle.tiles.specs.FileTile.{rankOf, rectangle, meets, paints}
+use Rattle.tiles.specs.FileTile.{rankOf, rectangle, meets}
 use Rattle.tiles.proofs.Rectangles.{read-edges}
 use Rattle.question.proofs.Ranks.{rank-entry}
 use Rattle.compose.specs.Steps.{Chosen, Edges, takesTurn, keysBelow, Gathered, AddRoom, Added}
@@ -37,9 +36,8 @@ keys-rising (suc n) bs table w h = go (takesTurn bs table w n) (keys-rising n bs
   where
     new : (i : ℕ) → i < length (keysBelow n bs table w) → getD (keysBelow n bs table w) i 0 ≡ rankOf bs n (entryPlace bs n) → ⊥
     new i k e =
-        let ch = paints (scanOf bs) true in
-        let q = key-at ch table w n (keysBelow n bs table w) (keys-in ch table w n (omega arith)) i k .within in
-        let s : getD (keysBelow n bs table w) i 0 % 4096 ≡ n = ap (λ (x : ℕ). x % 4096) e ∙ rank-entry (scanOf bs) n (entryPlace bs n) (omega arith) in
+        let q = key-at bs table w n (keysBelow n bs table w) (keys-in bs table w n (omega arith)) i k .within in
+        let s : getD (keysBelow n bs table w) i 0 % 4096 ≡ n = ap (λ (x : ℕ). x % 4096) e ∙ rank-entry bs n (entryPlace bs n) (omega arith) in
         omega (arith, q, s)
 
     go : (b : Bool) → Rising (keysBelow n bs table w)
@@ -72,7 +70,7 @@ pub gather-start : (n : ℕ) (bs table : List ℕ) (w : Rect) (keys : List ℕ) 
 unfolding keysBelow
 gather-start n bs table w keys e = record { most = omega arith; gathered = record { size = e; few = omega arith; keys-are = refl } }
 
-module _ {bs table : List ℕ} (c : Chosen (scanOf bs) table) {n : ℕ} (e : n ≡ tileCount bs) {w : Rect} {keys : List ℕ} {count k : ℕ}
+module _ {bs table : List ℕ} (c : Chosen bs table) {n : ℕ} (e : n ≡ tileCount bs) {w : Rect} {keys : List ℕ} {count k : ℕ}
     (g : GatheredBelow n bs table w keys count k) where
   pub add-room : Edges w → k < n → AddRoom bs keys count k (getD table k 0) w
   add-room edges h = let few = table-few c e in record {

@@ -27,10 +27,9 @@ below-is : (s t : Tile) (a b : ℕ) → s .rank ≡ a → t .rank ≡ b → belo
 unfolding below
 below-is s t a b e f = rw (e, f)
 
-module _ (ch : Choice) (table : List ℕ) (w : Rect) where
-  abbrev bs : List ℕ
-  bs = ch .scan .file
+-- ---- the keys of the entries of the file bs
 
+module _ (bs table : List ℕ) (w : Rect) where
   abbrev keys : ℕ → List ℕ
   keys n = keysBelow n bs table w
 
@@ -67,7 +66,7 @@ module _ (ch : Choice) (table : List ℕ) (w : Rect) where
       go false i = (ks .0, i)
 
   new-key : (n : ℕ) → n < 4096 → turns n ≡ true → Key (suc n) (rank n)
-  new-key n h t = let e = rank-entry (ch .scan) n (entryPlace bs n) h in record { within = omega (arith, e); rank = rw e; turn = rw e t }
+  new-key n h t = let e = rank-entry bs n (entryPlace bs n) h in record { within = omega (arith, e); rank = rw e; turn = rw e t }
 
   pub keys-in : (n : ℕ) → n ≤ 4096 → Keys n (keys n)
   unfolding keysBelow
@@ -85,12 +84,28 @@ module _ (ch : Choice) (table : List ℕ) (w : Rect) where
   key-at n (q ∷ l) ks zero h = ks .0
   key-at n (q ∷ l) ks (suc i) h = key-at n l (ks .1) i (omega arith)
 
-  -- ---- the tiles along the keys
+-- ---- the tiles along the keys
 
-  key-rank : (n q : ℕ) → Key n q → tileOfKey ch q .rank ≡ q
+module _ (ch : Choice) (table : List ℕ) (w : Rect) where
+  abbrev bs : List ℕ
+  bs = ch .scan .file
+
+  abbrev keysOf : ℕ → List ℕ
+  keysOf n = keysBelow n bs table w
+
+  abbrev turnsOf : ℕ → Bool
+  turnsOf = takesTurn bs table w
+
+  abbrev KeyOf : ℕ → ℕ → Type 0
+  KeyOf = Key bs table w
+
+  abbrev KeysOf : ℕ → List ℕ → Type 0
+  KeysOf = Keys bs table w
+
+  key-rank : (n q : ℕ) → KeyOf n q → tileOfKey ch q .rank ≡ q
   key-rank n q k = file-rank ch (q % 4096) ∙ k .rank
 
-  map-insert : (n r : ℕ) (l : List ℕ) → Key n r → Keys n l → map (tileOfKey ch) (insertKey r l) ≡ insert (tileOfKey ch r) (map (tileOfKey ch) l)
+  map-insert : (n r : ℕ) (l : List ℕ) → KeyOf n r → KeysOf n l → map (tileOfKey ch) (insertKey r l) ≡ insert (tileOfKey ch r) (map (tileOfKey ch) l)
   unfolding insertKey insert
   map-insert n r [] k ks = refl
   map-insert n r (q ∷ l) k ks =
@@ -103,17 +118,18 @@ module _ (ch : Choice) (table : List ℕ) (w : Rect) where
       go true i = refl
       go false i = ap (λ (x : List Tile). tileOfKey ch q ∷ x) i
 
-  pub key-tiles : (n : ℕ) → n ≤ 4096 → map (tileOfKey ch) (keys n) ≡ bottomFirst (tilesBelow n ch (turns))
+  pub key-tiles : (n : ℕ) → n ≤ 4096 → map (tileOfKey ch) (keysOf n) ≡ bottomFirst (tilesBelow n ch turnsOf)
   unfolding keysBelow tilesBelow bottomFirst
   key-tiles zero h = refl
-  key-tiles (suc n) h = go (turns n) refl (key-tiles n (omega arith))
+  key-tiles (suc n) h = go (turnsOf n) refl (key-tiles n (omega arith))
     where
-      go : (b : Bool) → turns n ≡ b → map (tileOfKey ch) (keys n) ≡ bottomFirst (tilesBelow n ch (turns))
-          → map (tileOfKey ch) (cond b (insertKey (rank n) (keys n)) (keys n))
-          ≡ bottomFirst (cond b (fileTile ch n ∷ tilesBelow n ch (turns)) (tilesBelow n ch (turns)))
+      go : (b : Bool) → turnsOf n ≡ b → map (tileOfKey ch) (keysOf n) ≡ bottomFirst (tilesBelow n ch turnsOf)
+          → map (tileOfKey ch) (cond b (insertKey (rank bs table w n) (keysOf n)) (keysOf n))
+          ≡ bottomFirst (cond b (fileTile ch n ∷ tilesBelow n ch turnsOf) (tilesBelow n ch turnsOf))
       go true e i =
-          map-insert (suc n) (rank n) (keys n) (new-key n (omega arith) e) (laters n (keys n) (keys-in n (omega arith)))
-          ∙ rw (rank-entry (ch .scan) n (entryPlace bs n) (omega arith), i)
+          map-insert (suc n) (rank bs table w n) (keysOf n) (new-key bs table w n (omega arith) e)
+          (laters bs table w n (keysOf n) (keys-in bs table w n (omega arith)))
+          ∙ rw (rank-entry bs n (entryPlace bs n) (omega arith), i)
       go false e i = i
 
   -- ---- the tiles that take a turn are the chosen ones that meet the window
@@ -123,15 +139,15 @@ module _ (ch : Choice) (table : List ℕ) (w : Rect) where
   meetsWindow t = meets (rectangle bs (entryPlace bs (t .rank % 4096))) w
 
   pub file-meets : (k : ℕ) → k < 4096 → meetsWindow (fileTile ch k) ≡ meets (rectangle bs (entryPlace bs k)) w
-  file-meets k h = rw (file-rank ch k, rank-entry (ch .scan) k (entryPlace bs k) h)
+  file-meets k h = rw (file-rank ch k, rank-entry bs k (entryPlace bs k) h)
 
-  pub turn-tiles : (n : ℕ) → n ≤ 4096 → tilesBelow n ch (turns) ≡ keep meetsWindow (tilesBelow n ch (chosenIn table))
+  pub turn-tiles : (n : ℕ) → n ≤ 4096 → tilesBelow n ch turnsOf ≡ keep meetsWindow (tilesBelow n ch (chosenIn table))
   unfolding tilesBelow keep
   turn-tiles zero h = refl
   turn-tiles (suc n) h = go (chosenIn table n) (meets (rectangle bs (entryPlace bs n)) w) (file-meets n (omega arith)) (turn-tiles n (omega arith))
     where
-      go : (b m : Bool) → meetsWindow (fileTile ch n) ≡ m → tilesBelow n ch (turns) ≡ keep meetsWindow (tilesBelow n ch (chosenIn table))
-          → cond (cond b m false) (fileTile ch n ∷ tilesBelow n ch (turns)) (tilesBelow n ch (turns))
+      go : (b m : Bool) → meetsWindow (fileTile ch n) ≡ m → tilesBelow n ch turnsOf ≡ keep meetsWindow (tilesBelow n ch (chosenIn table))
+          → cond (cond b m false) (fileTile ch n ∷ tilesBelow n ch turnsOf) (tilesBelow n ch turnsOf)
           ≡ keep meetsWindow (cond b (fileTile ch n ∷ tilesBelow n ch (chosenIn table)) (tilesBelow n ch (chosenIn table)))
       go true true e i = rw e (ap (λ (x : List Tile). fileTile ch n ∷ x) i)
       go true false e i = rw e i

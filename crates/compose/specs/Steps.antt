@@ -6,12 +6,13 @@ use mathlib.Core.Bool.{Bool, true, false, cond, not}
 use lib.ListN.{length, getD, take}
 use lib.Dec.{eqb}
 use lib.IntN.{ℤ}
-use Rattle.format.specs.Scan.{Scan, scanOf}
+use Rattle.format.specs.Scan.{Scan, scanOf, blockFile}
 use Rattle.format.specs.Choice.{Choice}
 use Rattle.format.specs.Checks.{first}
 use Rattle.format.specs.Entry.{pixelType, pixelBytes, filePosition, isPyramid}
 use Rattle.format.specs.Directory.{tileCount, entryPlace}
-use Rattle.format.specs.Rules.{verdict}
+use Rattle.format.specs.Rules.{verdict, AcceptedFile}
+use Rattle.format.specs.declared.Release.{Release}
 use Rattle.format.specs.declared.Verdict.{Verdict}
 use Rattle.format.specs.declared.Verdict.the-variants.{Accepted}
 use Rattle.plane.specs.Tiles.{Tile, area}
@@ -23,9 +24,9 @@ use Rattle.keys.specs.Keys.{insertKey, Rising}
 use Rattle.subblocks.specs.Judged.{Listed}
 use Rattle.tiles.specs.FileTile.{rankOf, rectangle, meets, fileTile, tilesBelow}
 use Rattle.tiles.specs.Painted.{PaintRoom, Painted}
-use Rattle.selection.specs.Select.{chooses}
-use Rattle.question.specs.Question.{masksOn, requestWindow, askRows, agreeRows}
-use Rattle.question.specs.Call.{Asked, choiceOf, callVerdict}
+use Rattle.selection.specs.Select.{selects}
+use Rattle.question.specs.Question.{requestWindow, askRows, agreeRows}
+use Rattle.question.specs.Call.{Asked, callVerdict}
 use Rattle.question.specs.declared.WindowRequest.{WindowRequest}
 use Rattle.compose.specs.declared.Counts.{Counts}
 
@@ -35,11 +36,11 @@ abbrev pub chosenIn : List ℕ → ℕ → Bool
 chosenIn table k = not (eqb (getD table k 0) 0)
 
 -- a table over an accepted file: no pyramid tile is chosen
-pub record Chosen (sc : Scan) (table : List ℕ) : Type 0 where
-  pub accepted : verdict sc ≡ Accepted
+pub record Chosen (bs table : List ℕ) : Type 0 where
+  pub accepted : AcceptedFile bs
   pub size : length table ≡ 4096
-  pub place : (k : ℕ) → k < tileCount (sc .file) → chosenIn table k ≡ true → getD table k 0 ≡ entryPlace (sc .file) k
-  pub whole : (k : ℕ) → k < tileCount (sc .file) → chosenIn table k ≡ true → isPyramid (sc .file) (entryPlace (sc .file) k) ≡ false
+  pub place : (k : ℕ) → k < tileCount bs → chosenIn table k ≡ true → getD table k 0 ≡ entryPlace bs k
+  pub whole : (k : ℕ) → k < tileCount bs → chosenIn table k ≡ true → isPyramid bs (entryPlace bs k) ≡ false
 
 -- a window whose edges fit
 pub record Edges (w : Rect) : Type 0 where
@@ -87,14 +88,16 @@ tileOfKey ch key = fileTile ch (key % 4096)
 abbrev pub keyPlace : List ℕ → ℕ → ℕ
 keyPlace table key = getD table (key % 4096) 0
 
--- what its turn may read and write, of the file bs
-pub record KeyRoom (t m bs table : List ℕ) (key : ℕ) (on : Bool) (w : Rect) : Type 0 where
+-- what its turn may read and write
+pub record KeyRoom (t m : List ℕ) (sc : Scan) (table : List ℕ) (key : ℕ) (on : Bool) (w : Rect) : Type 0 where
   pub size : length table ≡ 4096
-  pub paint : PaintRoom t m bs (keyPlace table key) bs (filePosition bs (keyPlace table key)) on w
+  pub paint : PaintRoom t m (sc .file) (keyPlace table key) (blockFile sc (keyPlace table key)) (filePosition (sc .file) (keyPlace table key)) (sc .release)
+      on w
 
 -- what its turn does
-pub record KeyPainted (t m bs table : List ℕ) (key : ℕ) (on : Bool) (w : Rect) (quick : Bool) (t′ m′ : List ℕ) (r : ℕ) : Type 0 where
-  pub painted : Painted t m bs (keyPlace table key) bs (filePosition bs (keyPlace table key)) on w quick t′ m′ r
+pub record KeyPainted (t m : List ℕ) (sc : Scan) (table : List ℕ) (key : ℕ) (on : Bool) (w : Rect) (quick : Bool) (t′ m′ : List ℕ) (r : ℕ) : Type 0 where
+  pub painted : Painted t m (sc .file) (keyPlace table key) (blockFile sc (keyPlace table key)) (filePosition (sc .file) (keyPlace table key)) (sc .release)
+      on w quick t′ m′ r
 
 -- the tiles in the order of each kind's turns, along rising keys
 abbrev pub turnOrder : Kind → List Tile → List Tile
@@ -104,7 +107,8 @@ turnOrder quick l = reverse l
 -- what the turns along the first count keys may read and write: the table and the keys are those of a selection of the file's entries,
 -- every tile that takes a turn has the asked type, and the window has room
 pub record RunRoom (t m : List ℕ) (sc : Scan) (table keys : List ℕ) (count : ℕ) (w : Rect) (pixel : ℕ) : Type 0 where
-  pub chosen : Chosen sc table
+  pub accepted : verdict sc ≡ Accepted
+  pub chosen : Chosen (sc .file) table
   pub gathered : Gathered (tileCount (sc .file)) (sc .file) table w keys count
   pub edges : Edges w
   pub room : Room w (pixelBytes pixel) t m
@@ -120,7 +124,8 @@ pub record RunDone (k : Kind) (t m : List ℕ) (ch : Choice) (keys : List ℕ) (
 
 -- what painting may read and write: a selection whose tiles that meet the window have the asked type, and lent bytes with room
 pub record PlaneRoom (t m : List ℕ) (sc : Scan) (table background : List ℕ) (w : Rect) (pixel : ℕ) : Type 0 where
-  pub chosen : Chosen sc table
+  pub accepted : verdict sc ≡ Accepted
+  pub chosen : Chosen (sc .file) table
   pub edges : Edges w
   pub room : Room w (pixelBytes pixel) t m
   pub small : area w ≤ 4294967296
@@ -138,27 +143,28 @@ pub record PlaneDone (k : Kind) (t m : List ℕ) (ch : Choice) (table background
 
 -- ---- the whole of refusing: where it accepts, the table holds what the question's starts select
 
-abbrev pub asked : List ℕ → List ℤ → Bool → WindowRequest → List ℕ → Asked
-asked bs starts anyScene f background = record { scan = scanOf bs; starts = starts; anyScene = anyScene; request = f; background = background }
+abbrev pub asked : List ℕ → Release → List ℤ → Bool → WindowRequest → List ℕ → Asked
+asked bs rel starts anyScene f background = record { scan = scanOf bs rel; starts = starts; anyScene = anyScene; request = f; background = background }
 
--- what of it chooses tiles and says how they are painted
-abbrev pub choice : List ℕ → List ℤ → Bool → WindowRequest → Choice
-choice bs starts anyScene f = record { scan = scanOf bs; starts = starts; anyScene = anyScene; masks = masksOn (f .masks) }
+-- the starts select entry k
+abbrev pub startsSelect : List ℕ → List ℤ → Bool → ℕ → Bool
+startsSelect bs starts anyScene k = selects bs starts anyScene (entryPlace bs k)
 
 -- the table chooses as the starts do
-pub record Selects (ch : Choice) (table : List ℕ) : Type 0 where
-  pub table-is : Chosen (ch .scan) table
-  pub as-asked : (k : ℕ) → k < tileCount (ch .scan .file) → chosenIn table k ≡ chooses ch k
+pub record Selects (bs : List ℕ) (starts : List ℤ) (anyScene : Bool) (table : List ℕ) : Type 0 where
+  pub table-is : Chosen bs table
+  pub as-asked : (k : ℕ) → k < tileCount bs → chosenIn table k ≡ startsSelect bs starts anyScene k
 
 -- the rows of 23, of 20 to 23, of all
-pub record AgreeAnswered (ch : Choice) (f : WindowRequest) (table : List ℕ) (r : Verdict) : Type 0 where
-  pub verdict-is : r ≡ first (agreeRows (ch .scan .file) (chooses ch) (requestWindow f) (f .«pixel_type»))
-  pub selects-so : Selects ch table
+pub record AgreeAnswered (bs : List ℕ) (starts : List ℤ) (anyScene : Bool) (f : WindowRequest) (table : List ℕ) (r : Verdict) : Type 0 where
+  pub verdict-is : r ≡ first (agreeRows bs (startsSelect bs starts anyScene) (requestWindow f) (f .«pixel_type»))
+  pub selects-so : Selects bs starts anyScene table
 
-pub record AskAnswered (ch : Choice) (f : WindowRequest) (background : List ℕ) (target map : ℕ) (table : List ℕ) (r : Verdict) : Type 0 where
-  pub verdict-is : r ≡ first (askRows f background target map ++ agreeRows (ch .scan .file) (chooses ch) (requestWindow f) (f .«pixel_type»))
-  pub selects-so : r ≡ Accepted → Selects ch table
+pub record AskAnswered (bs : List ℕ) (starts : List ℤ) (anyScene : Bool) (f : WindowRequest) (background : List ℕ) (target map : ℕ)
+    (table : List ℕ) (r : Verdict) : Type 0 where
+  pub verdict-is : r ≡ first (askRows f background target map ++ agreeRows bs (startsSelect bs starts anyScene) (requestWindow f) (f .«pixel_type»))
+  pub selects-so : r ≡ Accepted → Selects bs starts anyScene table
 
 pub record ExamineAnswered (a : Asked) (target map : ℕ) (table : List ℕ) (r : Verdict) : Type 0 where
   pub verdict-is : r ≡ callVerdict a target map
-  pub selects-so : r ≡ Accepted → Selects (choiceOf a) table
+  pub selects-so : r ≡ Accepted → Selects (a .scan .file) (a .starts) (a .anyScene) table

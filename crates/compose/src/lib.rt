@@ -1,4 +1,5 @@
 // Composes one plane of a file: select, ask, agree, paint. The plain composer paints bottom tile first, the quick one top tile first.
+use format::Release;
 use format::Verdict;
 use plane::Rect;
 use question::Composed;
@@ -16,14 +17,13 @@ ghost use Rattle.format.specs.Directory.{tileCount, entryPlace};
 ghost use Rattle.plane.specs.Tiles.{area};
 ghost use Rattle.plane.specs.Turns.{plain, quick};
 ghost use Rattle.plane.specs.Demand2.{Room};
-ghost use Rattle.format.specs.Rules.{verdict};
-ghost use Rattle.format.specs.declared.Verdict.the-variants.{Accepted};
+ghost use Rattle.format.specs.Rules.{AcceptedFile};
 ghost use Rattle.turns.specs.Turned.{kindOf};
 ghost use Rattle.question.specs.Question.{typeBad, agreeRows, windowBad, requestWindow};
 ghost use Rattle.question.specs.Call.{Answered};
 ghost use Rattle.subblocks.specs.Judged.{Listed};
 ghost use Rattle.tiles.specs.FileTile.{paints};
-ghost use Rattle.compose.specs.Steps.{chosenIn, Chosen, Edges, Gathered, AddRoom, Added, KeyRoom, KeyPainted, RunRoom, RunDone, PlaneRoom, Begun, PlaneDone, asked, choice, AgreeAnswered, AskAnswered, ExamineAnswered};
+ghost use Rattle.compose.specs.Steps.{chosenIn, Chosen, Edges, Gathered, AddRoom, Added, KeyRoom, KeyPainted, RunRoom, RunDone, PlaneRoom, Begun, PlaneDone, asked, AgreeAnswered, AskAnswered, ExamineAnswered};
 
 // The covered count and the store count of a plane that was painted.
 pub struct Counts {
@@ -51,7 +51,7 @@ fn disagrees(s: &[u8], e: u64, w: Rect, t: u64) -> bool
 
 // Refusal 23 over the chosen entries below n, in directory order.
 fn agree(s: &[u8], table: &[u64; 4096], n: u64, w: Rect, t: u64) -> Verdict
-    requires { ⌜ Chosen (scanOf (now s)) (now table) ⌝ }
+    requires { ⌜ Chosen (now s) (now table) ⌝ }
     requires { ⌜ (n ≡ tileCount (now s)) × Edges w ⌝ }
     ensures { λ r. ⌜ r ≡ first (agreeRows (now (s .entry)) (chosenIn (now (table .entry))) w t) ⌝ }
 {
@@ -89,7 +89,7 @@ fn add_key(s: &[u8], keys: &mut [u64; 4096], count: usize, k: u64, e: u64, w: Re
 
 // The keys of the entries below n that take a turn, rising; the result is how many there are.
 fn gather(s: &[u8], table: &[u64; 4096], n: u64, w: Rect, keys: &mut [u64; 4096]) -> usize
-    requires { ⌜ Chosen (scanOf (now s)) (now table) ⌝ }
+    requires { ⌜ Chosen (now s) (now table) ⌝ }
     requires { ⌜ (n ≡ tileCount (now s)) × Edges w ⌝ }
     requires { ⌜ length (now keys) ≡ 4096 ⌝ }
     ensures { λ r. ⌜ Gathered n (now (s .entry)) (now (table .entry)) w (now (keys .exit)) r ⌝ }
@@ -111,19 +111,20 @@ fn paint_key(
     target: &mut [u8],
     map: &mut [u8],
     s: &[u8],
+    release: Release,
     table: &[u64; 4096],
     key: u64,
     w: Rect,
     on: bool,
     quick: bool,
 ) -> usize
-    requires { ⌜ KeyRoom (now target) (now map) (now s) (now table) key on w ⌝ }
-    ensures { λ r. ⌜ KeyPainted (now (target .entry)) (now (map .entry)) (now (s .entry)) (now (table .entry)) key on w quick (now (target .exit)) (now (map .exit)) r ⌝ }
+    requires { ⌜ KeyRoom (now target) (now map) (scanOf (now s) release) (now table) key on w ⌝ }
+    ensures { λ r. ⌜ KeyPainted (now (target .entry)) (now (map .entry)) (scanOf (now (s .entry)) release) (now (table .entry)) key on w quick (now (target .exit)) (now (map .exit)) r ⌝ }
 {
     let k = (key % 4096) as usize;
     let e = table[k];
     let q = entries::file_position(s, e);
-    tiles::paint_entry(target, map, s, e, s, q, w, on, quick)
+    tiles::paint_entry(target, map, s, e, s, q, release, w, on, quick)
 }
 
 // The plain composer's turns over tiles of type t: bottom tile first, along rising keys. The result is the store count.
@@ -131,6 +132,7 @@ fn paint_up(
     target: &mut [u8],
     map: &mut [u8],
     s: &[u8],
+    release: Release,
     table: &[u64; 4096],
     keys: &[u64; 4096],
     count: usize,
@@ -138,14 +140,14 @@ fn paint_up(
     t: u64,
     on: bool,
 ) -> u64
-    requires { ⌜ RunRoom (now target) (now map) (scanOf (now s)) (now table) (now keys) count w t ⌝ }
-    ensures { λ r. ⌜ RunDone plain (now (target .entry)) (now (map .entry)) (paints (scanOf (now (s .entry))) on) (now (keys .entry)) count w t (now (target .exit)) (now (map .exit)) r ⌝ }
+    requires { ⌜ RunRoom (now target) (now map) (scanOf (now s) release) (now table) (now keys) count w t ⌝ }
+    ensures { λ r. ⌜ RunDone plain (now (target .entry)) (now (map .entry)) (paints (scanOf (now (s .entry)) release) on) (now (keys .entry)) count w t (now (target .exit)) (now (map .exit)) r ⌝ }
 {
     let mut stored: u64 = 0;
     let mut i: usize = 0;
     while i < count {
         let key = keys[i];
-        stored += paint_key(target, map, s, table, key, w, on, false) as u64;
+        stored += paint_key(target, map, s, release, table, key, w, on, false) as u64;
         i += 1;
     }
     stored
@@ -156,6 +158,7 @@ fn paint_down(
     target: &mut [u8],
     map: &mut [u8],
     s: &[u8],
+    release: Release,
     table: &[u64; 4096],
     keys: &[u64; 4096],
     count: usize,
@@ -163,15 +166,15 @@ fn paint_down(
     t: u64,
     on: bool,
 ) -> u64
-    requires { ⌜ RunRoom (now target) (now map) (scanOf (now s)) (now table) (now keys) count w t ⌝ }
-    ensures { λ r. ⌜ RunDone quick (now (target .entry)) (now (map .entry)) (paints (scanOf (now (s .entry))) on) (now (keys .entry)) count w t (now (target .exit)) (now (map .exit)) r ⌝ }
+    requires { ⌜ RunRoom (now target) (now map) (scanOf (now s) release) (now table) (now keys) count w t ⌝ }
+    ensures { λ r. ⌜ RunDone quick (now (target .entry)) (now (map .entry)) (paints (scanOf (now (s .entry)) release) on) (now (keys .entry)) count w t (now (target .exit)) (now (map .exit)) r ⌝ }
 {
     let mut stored: u64 = 0;
     let mut i = count;
     while 0 < i {
         i -= 1;
         let key = keys[i];
-        stored += paint_key(target, map, s, table, key, w, on, true) as u64;
+        stored += paint_key(target, map, s, release, table, key, w, on, true) as u64;
     }
     stored
 }
@@ -195,6 +198,7 @@ fn paint_plane(
     target: &mut [u8],
     map: &mut [u8],
     s: &[u8],
+    release: Release,
     table: &[u64; 4096],
     w: Rect,
     t: u64,
@@ -202,21 +206,21 @@ fn paint_plane(
     background: &[u8],
     quick: bool,
 ) -> Counts
-    requires { ⌜ PlaneRoom (now target) (now map) (scanOf (now s)) (now table) (now background) w t ⌝ }
-    ensures { λ r. ⌜ PlaneDone (kindOf quick) (now (target .entry)) (now (map .entry)) (paints (scanOf (now (s .entry))) on) (now (table .entry)) (now (background .entry)) w t (now (target .exit)) (now (map .exit)) r ⌝ }
+    requires { ⌜ PlaneRoom (now target) (now map) (scanOf (now s) release) (now table) (now background) w t ⌝ }
+    ensures { λ r. ⌜ PlaneDone (kindOf quick) (now (target .entry)) (now (map .entry)) (paints (scanOf (now (s .entry)) release) on) (now (table .entry)) (now (background .entry)) w t (now (target .exit)) (now (map .exit)) r ⌝ }
 {
     begin(target, map, w, t, background);
     let n = judge::tile_count(s);
     let mut keys = [0u64; 4096];
     let count = gather(s, table, n, w, &mut keys);
     if quick {
-        let stored = paint_down(target, map, s, table, &keys, count, w, t, on);
+        let stored = paint_down(target, map, s, release, table, &keys, count, w, t, on);
         return Counts {
             covered: stored,
             stored,
         };
     }
-    let stored = paint_up(target, map, s, table, &keys, count, w, t, on);
+    let stored = paint_up(target, map, s, release, table, &keys, count, w, t, on);
     let covered = cover::count_ones(map, w.height * w.width) as u64;
     Counts { covered, stored }
 }
@@ -231,9 +235,9 @@ fn examine_tiles(
     f: WindowRequest,
     table: &mut [u64; 4096],
 ) -> Verdict
-    requires { ⌜ (verdict (scanOf (now s)) ≡ Accepted) × (length (now table) ≡ 4096) ⌝ }
+    requires { ⌜ AcceptedFile (now s) × (length (now table) ≡ 4096) ⌝ }
     requires { ⌜ windowBad (requestWindow f) ≡ false ⌝ }
-    ensures { λ r. ⌜ AgreeAnswered (choice (now (s .entry)) (now (starts .entry)) «any_scene» f) f (now (table .exit)) r ⌝ }
+    ensures { λ r. ⌜ AgreeAnswered (now (s .entry)) (now (starts .entry)) «any_scene» f (now (table .exit)) r ⌝ }
 {
     let n = selection::select(s, starts, any_scene, table);
     let w = ask::window_of(f);
@@ -252,8 +256,8 @@ fn examine_question(
     map: u64,
     table: &mut [u64; 4096],
 ) -> Verdict
-    requires { ⌜ (verdict (scanOf (now s)) ≡ Accepted) × (length (now table) ≡ 4096) ⌝ }
-    ensures { λ r. ⌜ AskAnswered (choice (now (s .entry)) (now (starts .entry)) «any_scene» f) f (now (background .entry)) target map (now (table .exit)) r ⌝ }
+    requires { ⌜ AcceptedFile (now s) × (length (now table) ≡ 4096) ⌝ }
+    ensures { λ r. ⌜ AskAnswered (now (s .entry)) (now (starts .entry)) «any_scene» f (now (background .entry)) target map (now (table .exit)) r ⌝ }
 {
     let v = ask::ask(f, background, target, map);
     match v {
@@ -265,6 +269,7 @@ fn examine_question(
 // Judges the file and examines the question: all of a call's refusals in their order.
 fn examine(
     s: &[u8],
+    release: Release,
     starts: &[i32],
     any_scene: bool,
     f: WindowRequest,
@@ -274,9 +279,9 @@ fn examine(
     table: &mut [u64; 4096],
 ) -> Verdict
     requires { ⌜ length (now table) ≡ 4096 ⌝ }
-    ensures { λ r. ⌜ ExamineAnswered (asked (now (s .entry)) (now (starts .entry)) «any_scene» f (now (background .entry))) target map (now (table .exit)) r ⌝ }
+    ensures { λ r. ⌜ ExamineAnswered (asked (now (s .entry)) release (now (starts .entry)) «any_scene» f (now (background .entry))) target map (now (table .exit)) r ⌝ }
 {
-    let v = judge::judge(s);
+    let v = judge::judge(s, release);
     match v {
         Verdict::Refused { number, place } => Verdict::Refused { number, place },
         Verdict::Accepted => examine_question(
@@ -295,6 +300,7 @@ fn examine(
 // A whole call of the quick or the plain composer.
 fn compose_by(
     s: &[u8],
+    release: Release,
     starts: &[i32],
     any_scene: bool,
     f: WindowRequest,
@@ -303,11 +309,12 @@ fn compose_by(
     map: &mut [u8],
     quick: bool,
 ) -> Composed
-    ensures { λ r. ⌜ Answered (kindOf quick) (asked (now (s .entry)) (now (starts .entry)) «any_scene» f (now (background .entry))) (now (target .entry)) (now (map .entry)) (now (target .exit)) (now (map .exit)) r ⌝ }
+    ensures { λ r. ⌜ Answered (kindOf quick) (asked (now (s .entry)) release (now (starts .entry)) «any_scene» f (now (background .entry))) (now (target .entry)) (now (map .entry)) (now (target .exit)) (now (map .exit)) r ⌝ }
 {
     let mut table = [0u64; 4096];
     let v = examine(
         s,
+        release,
         starts,
         any_scene,
         f,
@@ -323,7 +330,7 @@ fn compose_by(
             let t = f.pixel_type;
             let m = f.masks;
             let on = ask::masks_on(m);
-            let c = paint_plane(target, map, s, &table, w, t, on, background, quick);
+            let c = paint_plane(target, map, s, release, &table, w, t, on, background, quick);
             Composed::Done {
                 covered: c.covered,
                 stored: c.stored,
@@ -335,6 +342,7 @@ fn compose_by(
 // The plain composer: bottom tile first. Any file bytes, any question, any lent bytes.
 pub fn compose_plain(
     s: &[u8],
+    release: Release,
     starts: &[i32],
     any_scene: bool,
     f: WindowRequest,
@@ -342,14 +350,25 @@ pub fn compose_plain(
     target: &mut [u8],
     map: &mut [u8],
 ) -> Composed
-    ensures { λ r. ⌜ Answered plain (asked (now (s .entry)) (now (starts .entry)) «any_scene» f (now (background .entry))) (now (target .entry)) (now (map .entry)) (now (target .exit)) (now (map .exit)) r ⌝ }
+    ensures { λ r. ⌜ Answered plain (asked (now (s .entry)) release (now (starts .entry)) «any_scene» f (now (background .entry))) (now (target .entry)) (now (map .entry)) (now (target .exit)) (now (map .exit)) r ⌝ }
 {
-    compose_by(s, starts, any_scene, f, background, target, map, false)
+    compose_by(
+        s,
+        release,
+        starts,
+        any_scene,
+        f,
+        background,
+        target,
+        map,
+        false,
+    )
 }
 
 // The quick composer: top tile first, each pixel stored at most once. Any file bytes, any question, any lent bytes.
 pub fn compose_quick(
     s: &[u8],
+    release: Release,
     starts: &[i32],
     any_scene: bool,
     f: WindowRequest,
@@ -357,7 +376,17 @@ pub fn compose_quick(
     target: &mut [u8],
     map: &mut [u8],
 ) -> Composed
-    ensures { λ r. ⌜ Answered quick (asked (now (s .entry)) (now (starts .entry)) «any_scene» f (now (background .entry))) (now (target .entry)) (now (map .entry)) (now (target .exit)) (now (map .exit)) r ⌝ }
+    ensures { λ r. ⌜ Answered quick (asked (now (s .entry)) release (now (starts .entry)) «any_scene» f (now (background .entry))) (now (target .entry)) (now (map .entry)) (now (target .exit)) (now (map .exit)) r ⌝ }
 {
-    compose_by(s, starts, any_scene, f, background, target, map, true)
+    compose_by(
+        s,
+        release,
+        starts,
+        any_scene,
+        f,
+        background,
+        target,
+        map,
+        true,
+    )
 }

@@ -9,13 +9,13 @@ use native.Mathlib.Omega.{arith}
 use lib.Dec.{ltb}
 use lib.IntN.{pos, _-ℤ_}
 use borrow.Author.Tests.{lt-ltb, ltb-true, ltb-false}
-use Rattle.format.specs.Scan.{scanOf}
 use Rattle.format.specs.Bytes.{anyBelow, biased, shifted, signed32}
 use Rattle.format.specs.Entry.{isPyramid, letterPlace}
 use Rattle.format.specs.Directory.{tileCount, entryPlace}
-use Rattle.format.specs.Rules.{verdict}
+use Rattle.format.specs.Rules.{verdict, AcceptedFile}
 use Rattle.format.specs.declared.Verdict.the-variants.{Accepted}
 use Rattle.format.proofs.Below.{any-found}
+use Rattle.judge.proofs.AcceptedFile.{accepted-under}
 use Rattle.plane.specs.Tiles.{covers, covered}
 use Rattle.plane.specs.Cuts.{Inside}
 use Rattle.plane.proofs.Partitions.{covers-inside, inside-covers, within-same}
@@ -83,7 +83,7 @@ pub record Cornered (bs : List ℕ) : Type 0 where
   pub right-is : shifted (unshifted (right bs)) ≡ right bs
   pub bottom-is : shifted (unshifted (bottom bs)) ≡ bottom bs
 
-module _ (bs : List ℕ) (h : verdict (scanOf bs) ≡ Accepted) (k : ℕ) (l : k < tileCount bs) (p : plain bs k ≡ true) where
+module _ (bs : List ℕ) (h : AcceptedFile bs) (k : ℕ) (l : k < tileCount bs) (p : plain bs k ≡ true) where
   some-plain : anyBelow (tileCount bs) (plain bs) ≡ true
   some-plain = any-found (tileCount bs) k (plain bs) l p
 
@@ -128,15 +128,18 @@ module _ (bs : List ℕ) (h : verdict (scanOf bs) ≡ Accepted) (k : ℕ) (l : k
 -- ---- of what a question selects
 
 module _ (a : Asked) (h : verdict (a .scan) ≡ Accepted) where
+  file-accepted : AcceptedFile (a .scan .file)
+  file-accepted = accepted-under (a .scan .file) (a .scan .release) h
+
   in-box : (u v : ℕ) → covered (selected a) u v ≡ true → covers (summaryBox (a .scan)) u v ≡ true
   in-box u v e =
       let i = selected-by a u v e in
-      box-holds (a .scan .file) h (i .entry) (i .below) (chosen-plain a (i .entry) (i .is-chosen)) u v (i .covers-it)
+      box-holds (a .scan .file) file-accepted (i .entry) (i .below) (chosen-plain a (i .entry) (i .is-chosen)) u v (i .covers-it)
 
 pub all-boxed : AllBoxed
 all-boxed a h = record {
-  some = λ k l c. cornered (a .scan .file) h k l (chosen-plain a k c) .box-is;
-  holds = λ k l c. box-holds (a .scan .file) h k l (chosen-plain a k c);
+  some = λ k l c. cornered (a .scan .file) (file-accepted a h) k l (chosen-plain a k c) .box-is;
+  holds = λ k l c. box-holds (a .scan .file) (file-accepted a h) k l (chosen-plain a k c);
   covered-in = in-box a h;
   outside = λ w w′ s. within-same w w′ (covered (selected a)) (λ u v e. s u v (in-box a h u v e));
   whole = λ w s.

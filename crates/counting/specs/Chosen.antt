@@ -11,6 +11,7 @@ use Rattle.format.specs.Checks.{row, first, numberOf, placeOf, ifAccepted}
 use Rattle.format.specs.Directory.{tileCount}
 use Rattle.format.specs.Records.{tileEntry}
 use Rattle.format.specs.Rules.{checks}
+use Rattle.format.specs.declared.Release.{Release}
 use Rattle.format.specs.declared.Verdict.{Verdict}
 use Rattle.format.specs.declared.Verdict.the-variants as Is
 use Rattle.plane.specs.Sums.{count, tab}
@@ -31,11 +32,11 @@ pub record Sought : Type 0 where
   pub anyScene : Bool
   pub window : Rect
 
-abbrev pub seek : List ℕ → List ℤ → Bool → Rect → Sought
-seek bs starts anyScene w = record { scan = scanOf bs; starts = starts; anyScene = anyScene; window = w }
+abbrev pub seek : List ℕ → Release → List ℤ → Bool → Rect → Sought
+seek bs r starts anyScene w = record { scan = scanOf bs r; starts = starts; anyScene = anyScene; window = w }
 
-abbrev pub sought : List ℕ → List ℤ → Bool → ℤ → ℤ → ℕ → ℕ → Sought
-sought bs starts anyScene left top width height = seek bs starts anyScene (windowOf left top width height)
+abbrev pub sought : List ℕ → Release → List ℤ → Bool → ℤ → ℤ → ℕ → ℕ → Sought
+sought bs r starts anyScene left top width height = seek bs r starts anyScene (windowOf left top width height)
 
 -- ---- one tile, whose entry stands at e
 
@@ -72,10 +73,10 @@ marksBelow q before n = tab (length before) (λ k. cond (ltb k n) (markAt q (til
 abbrev pub marksOf : Sought → List ℕ → List ℕ
 marksOf q before = marksBelow q before (tileCount (q .scan .file))
 
--- what marking and counting leaves and answers
-pub record TilesMarked (q : Sought) (before after : List ℕ) (r : ChosenCounts) : Type 0 where
-  pub counts-are : r ≡ countsOf q
-  pub marks-are : after ≡ marksOf q before
+-- what marking and counting the tiles of the file bs leaves and answers, under every release
+pub record TilesMarked (bs : List ℕ) (starts : List ℤ) (anyScene : Bool) (w : Rect) (before after : List ℕ) (r : ChosenCounts) : Type 0 where
+  pub counts-are : (rel : Release) → r ≡ countsOf (seek bs rel starts anyScene w)
+  pub marks-are : (rel : Release) → after ≡ marksOf (seek bs rel starts anyScene w) before
 
 -- ---- the answer
 

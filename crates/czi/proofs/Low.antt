@@ -7,7 +7,7 @@ use native.Mathlib.Omega.{arith}
 use lib.ListN.{length}
 use lib.Dec.{eqb, leb, ltb}
 use borrow.Author.Tests.{leb-true}
-use Rattle.format.specs.Scan.{scanOf}
+use Rattle.format.specs.Scan.{Scan, blockFile}
 use Rattle.format.specs.Checks.{Check, first, rowsBelow, numberOf}
 use Rattle.format.specs.Segments.{nextSegment, segmentRows, walkRows, segmentsRows}
 use Rattle.format.specs.File.{attachmentDirectoryPosition, fileRows}
@@ -82,54 +82,56 @@ module _ (bs : List ℕ) where
   chunks-lows zero end seen c = refl
   chunks-lows (suc n) end seen c = lows-either (ltb c end) _ [] (chunks-lows n end (seen || isMask bs c) (nextChunk bs c)) refl
 
-  entry-lows : (d e : ℕ) → lows (entryRows (scanOf bs) d e) ≡ true
-  unfolding entryRows headRows tileRows subBlockRows attachmentRows lows
-  entry-lows d e = lows-either (hasChunks bs e bs (filePosition bs e)) _ [] (chunks-lows _ _ false _) refl
-
-  directory-lows : lows (directoryRows (scanOf bs)) ≡ true
-  unfolding directoryRows lows
-  directory-lows = lows-below (tileCount bs) _ (λ k. entry-lows _ (entryPlace bs k))
-
   attachments-lows : lows (attachmentsRows bs) ≡ true
   unfolding attachmentsRows attachmentDirectoryRows attachmentEntryRows lows
   attachments-lows =
       let t = attachmentDirectoryPosition bs in
       lows-either (eqb t 0) [] _ refl (lows-below (attachmentEntryCount bs t) _ (λ k. refl))
 
-  checks-lows : lows (checks (scanOf bs)) ≡ true
+module _ (sc : Scan) where
+  entry-lows : (d e : ℕ) → lows (entryRows sc d e) ≡ true
+  unfolding entryRows headRows tileRows subBlockRows attachmentRows lows
+  entry-lows d e =
+      lows-either (hasChunks (sc .file) e (blockFile sc e) (filePosition (sc .file) e) (sc .release)) _ [] (chunks-lows (blockFile sc e) _ _ false _) refl
+
+  directory-lows : lows (directoryRows sc) ≡ true
+  unfolding directoryRows lows
+  directory-lows = lows-below (tileCount (sc .file)) _ (λ k. entry-lows _ (entryPlace (sc .file) k))
+
+  checks-lows : lows (checks sc) ≡ true
   unfolding checks segmentsRows fileRows metadataRows lows
-  checks-lows = simp (lows-append, walk-lows 8192 0, directory-lows, lows-either, attachments-lows)
+  checks-lows = simp (lows-append, walk-lows (sc .file) 8192 0, directory-lows, lows-either, attachments-lows (sc .file))
 
   -- with further rows of such numbers
-  checks-then : (cs : List Check) → lows cs ≡ true → numberOf (first (checks (scanOf bs) ++ cs)) ≤ 30
-  checks-then cs e = low (checks (scanOf bs) ++ cs) (simp (lows-append, checks-lows, e))
+  checks-then : (cs : List Check) → lows cs ≡ true → numberOf (first (checks sc ++ cs)) ≤ 30
+  checks-then cs e = low (checks sc ++ cs) (simp (lows-append, checks-lows, e))
 
 -- ---- what is asked
 
-module _ (bs : List ℕ) where
-  pub verdict-low : numberOf (verdict (scanOf bs)) ≤ 30
+module _ (sc : Scan) where
+  pub verdict-low : numberOf (verdict sc) ≤ 30
   unfolding verdict
-  verdict-low = low _ (checks-lows bs)
+  verdict-low = low _ (checks-lows sc)
 
-  pub tile-low : (n : ℕ) → numberOf (tileVerdict (scanOf bs) n) ≤ 30
+  pub tile-low : (n : ℕ) → numberOf (tileVerdict sc n) ≤ 30
   unfolding tileVerdict lows
-  tile-low n = checks-then bs _ refl
+  tile-low n = checks-then sc _ refl
 
-  pub attachment-verdict-low : (n : ℕ) → numberOf (attachmentVerdict (scanOf bs) n) ≤ 30
+  pub attachment-verdict-low : (n : ℕ) → numberOf (attachmentVerdict sc n) ≤ 30
   unfolding attachmentVerdict lows
-  attachment-verdict-low n = checks-then bs _ refl
+  attachment-verdict-low n = checks-then sc _ refl
 
-  pub dimension-low : (n k : ℕ) → numberOf (dimensionVerdict (scanOf bs) n k) ≤ 30
+  pub dimension-low : (n k : ℕ) → numberOf (dimensionVerdict sc n k) ≤ 30
   unfolding dimensionVerdict lows
-  dimension-low n k = checks-then bs _ refl
+  dimension-low n k = checks-then sc _ refl
 
-  pub tiles-low : (x y : ℕ) → numberOf (tilesVerdict (scanOf bs) x y) ≤ 30
+  pub tiles-low : (x y : ℕ) → numberOf (tilesVerdict sc x y) ≤ 30
   unfolding tilesVerdict lows
-  tiles-low x y = checks-then bs _ refl
+  tiles-low x y = checks-then sc _ refl
 
-  pub dimensions-low : (x y : ℕ) → numberOf (dimensionsVerdict (scanOf bs) x y) ≤ 30
+  pub dimensions-low : (x y : ℕ) → numberOf (dimensionsVerdict sc x y) ≤ 30
   unfolding dimensionsVerdict lows
-  dimensions-low x y = checks-then bs _ refl
+  dimensions-low x y = checks-then sc _ refl
 
 -- ---- the verdict v that an answer about w has
 
@@ -163,7 +165,7 @@ attachment-in-low a e h = rw (← a .number-is, e) at h
 
 call-low : (a : Asked) (target map : ℕ) → numberOf (callVerdict a target map) ≤ 30
 unfolding callVerdict askRows agreeRows lows
-call-low a target map = checks-then (a .scan .file) _ (lows-below (tileCount (a .scan .file)) _ (λ k. refl))
+call-low a target map = checks-then (a .scan) _ (lows-below (tileCount (a .scan .file)) _ (λ k. refl))
 
 -- a composer's answer r
 pub answer-low : {k : Kind} {a : Asked} {t m t′ m′ : List ℕ} {r : Composed} → Answered k a t m t′ m′ r → numberIn r ≤ 30

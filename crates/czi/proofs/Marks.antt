@@ -13,6 +13,7 @@ use mir.Val.{ofZ, toZ}
 use Rattle.format.specs.Checks.{row, first, andThen, numberOf}
 use Rattle.format.specs.Directory.{tileCount}
 use Rattle.format.specs.Rules.{checks, verdict}
+use Rattle.format.specs.declared.Release.{Release}
 use Rattle.format.specs.declared.Verdict.{Verdict}
 use Rattle.format.specs.declared.Verdict.the-variants.{Accepted, Refused}
 use Rattle.format.proofs.Firsts.{first-append}
@@ -27,7 +28,7 @@ use Rattle.czi.proofs.Low.{verdict-low}
 call-low : (q : Sought) (lent : ℕ) → numberOf (chosenVerdict q lent) ≤ 30
 unfolding chosenVerdict verdict
 call-low q lent =
-    rw (first-append (checks (q .scan)) _) (go (first (checks (q .scan))) (ltb lent (tileCount (q .scan .file))) (verdict-low (q .scan .file)))
+    rw (first-append (checks (q .scan)) _) (go (first (checks (q .scan))) (ltb lent (tileCount (q .scan .file))) (verdict-low (q .scan)))
   where
     go : (v : Verdict) (t : Bool) → numberOf v ≤ 30 → numberOf (andThen v (first (row 22 0 t ∷ []))) ≤ 30
     go Accepted true h = omega arith
@@ -38,11 +39,11 @@ pub chosen-low : {q : Sought} {before after : List ℕ} {r : ChosenAnswer} → C
 chosen-low {q = q} {before = before} h = rw (h .number-is) (call-low q (length before))
 
 -- what was answered about left and top as their bits, said of left and top
-pub chosen-out : (left top : ℤ) {bs : List ℕ} {starts : List ℤ} {any : Bool} {width height : ℕ} {before after : List ℕ}
+pub chosen-out : (left top : ℤ) {bs : List ℕ} {rel : Release} {starts : List ℤ} {any : Bool} {width height : ℕ} {before after : List ℕ}
     {r : ChosenAnswer} {c : ChosenCounts} {number place : ℕ}
-    → ChosenAnswered (sought bs starts any (toZ w32 (ofZ w32 left)) (toZ w32 (ofZ w32 top)) width height) before after r
+    → ChosenAnswered (sought bs rel starts any (toZ w32 (ofZ w32 left)) (toZ w32 (ofZ w32 top)) width height) before after r
     → mag left < 2 ^ 31 → mag top < 2 ^ 31 → number ≡ numberIn r → place ≡ placeIn r → c ≡ countsIn r
-    → ChosenOut (sought bs starts any left top width height) before after number place (c .selected) (c .meeting)
+    → ChosenOut (sought bs rel starts any left top width height) before after number place (c .selected) (c .meeting)
 chosen-out left top h l t en ep ec =
     rw (← read-back left l, ← read-back top t)
     (record { number-is = cc; place-is = cc; selected-is = cc; meeting-is = cc; marks-are = h .marks-are })

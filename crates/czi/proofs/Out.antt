@@ -9,9 +9,13 @@ use native.Mathlib.Omega.{arith}
 use lib.Signed.{mag}
 use mir.Syntax.{w32}
 use mir.Val.{ofZ, toZ}
+use Rattle.format.specs.Scan.{scanOf}
+use Rattle.format.specs.Directory.{tileCount}
+use Rattle.format.specs.Rules.{verdict}
 use Rattle.format.specs.Checks.{numberOf, placeOf}
 use Rattle.format.specs.Answers.{VerdictAnswered, SpanAnswered, TileAnswered, DimensionAnswered, AttachmentAnswered}
 use Rattle.format.specs.Answers.{spanVerdict, spanIn, dimensionVerdictIn, dimensionIn}
+use Rattle.format.specs.declared.Release.{Release}
 use Rattle.format.specs.declared.Verdict.{Verdict}
 use Rattle.format.specs.declared.Verdict.the-variants.{Accepted, Refused}
 use Rattle.format.specs.declared.Span.{Span}
@@ -26,7 +30,7 @@ use Rattle.format.specs.declared.Attachment.{Attachment}
 use Rattle.format.specs.declared.AttachmentAnswer.{AttachmentAnswer}
 use Rattle.format.specs.declared.AttachmentAnswer.the-variants as AttachmentIs
 use Rattle.tables.specs.Numbers.{tileNumbers, tileStarts}
-use Rattle.tables.specs.Tables.{TableAnswered}
+use Rattle.tables.specs.Tables.{tilesVerdict, TileArrays, TableAnswered}
 use Rattle.tables.specs.declared.tiles.Table.{Table}
 use Rattle.text.specs.Text.{textOf, Clean}
 use Rattle.text.specs.declared.Text.{Text}
@@ -40,6 +44,7 @@ use Rattle.question.specs.declared.WindowRequest.{WindowRequest}
 use Rattle.question.specs.declared.Composed.{Composed}
 use Rattle.compose.specs.Steps.{asked}
 use Rattle.entries.proofs.ReadBack.{read-back}
+use Rattle.czi.specs.Lent.{releaseOf, lentScan}
 use Rattle.czi.specs.Plane.{requestOf, PlaneOut}
 use Rattle.czi.specs.Numbers.{boxNumbers}
 use Rattle.czi.specs.Out.{VerdictOut, SpanOut, TileOut, TableOut, DimensionOut, AttachmentOut, SummaryOut, TextOut}
@@ -82,6 +87,23 @@ module _ {v w : Verdict} {number place : ℕ} (n : number ≡ numberOf v) (p : p
         right-is = cc;
         bottom-is = cc;
       }
+
+-- the verdict v on a file, judged by the release rel of the number that was given
+pub judged-out : (bs : List ℕ) (rel : Release) (release : ℕ) {v : Verdict} {number place : ℕ}
+    → number ≡ numberOf v → place ≡ placeOf v → rel ≡ releaseOf release → VerdictAnswered (verdict (scanOf bs rel)) v
+    → VerdictOut (verdict (lentScan bs release)) number place
+judged-out bs rel release n p e a = rw (← e) (verdict-out n p a)
+
+-- all tile records of it, in the same way
+module _ (bs : List ℕ) (rel : Release) (release : ℕ) (e : rel ≡ releaseOf release) where
+  pub tiles-out : (x y : ℕ) {v : Verdict} {number place : ℕ} {t : Table} → number ≡ numberOf v → place ≡ placeOf v
+      → TableAnswered (tilesVerdict (scanOf bs rel) x y) (tileCount bs) t → v ≡ t .verdict
+      → TableOut (tilesVerdict (lentScan bs release) x y) (tileCount bs) number place (t .rows)
+  tiles-out x y n p a f = rw (← e) (table-out n p a f)
+
+  pub tile-arrays-out : {numbers₀ : List ℕ} {starts₀ : List ℤ} {numbers : List ℕ} {starts : List ℤ}
+      → TileArrays (scanOf bs rel) numbers₀ starts₀ numbers starts → TileArrays (lentScan bs release) numbers₀ starts₀ numbers starts
+  tile-arrays-out k = rw (← e) k
 
 -- ---- a tile record: by cases of the verdict w about which the answer a is
 
@@ -132,11 +154,11 @@ pub request-back : {f : WindowRequest} {type : ℕ} {left top : ℤ} {width heig
 request-back {left = left} {top = top} masks e l t = e ∙ rw (read-back left l, read-back top t)
 
 -- what a composer answered about the request f, said of g
-pub plane-out : {k : Kind} {bs : List ℕ} {starts : List ℤ} {any : Bool} {f g : WindowRequest}
+pub plane-out : {k : Kind} {bs : List ℕ} {rel : Release} {starts : List ℤ} {any : Bool} {f g : WindowRequest}
     {background t m t′ m′ : List ℕ} {r : Composed} {number place covered stored : ℕ}
-    → Answered k (asked bs starts any f background) t m t′ m′ r → f ≡ g
+    → Answered k (asked bs rel starts any f background) t m t′ m′ r → f ≡ g
     → number ≡ numberIn r → place ≡ placeIn r → covered ≡ coveredIn r → stored ≡ storedIn r
-    → PlaneOut k (asked bs starts any g background) t m t′ m′ number place covered stored
+    → PlaneOut k (asked bs rel starts any g background) t m t′ m′ number place covered stored
 plane-out h e en ep ec es =
     rw (← e)
     (record { number-is = cc; place-is = cc; covered-is = cc; stored-is = cc; target-is = h .target-is; map-is = h .map-is })

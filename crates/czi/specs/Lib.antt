@@ -1,4 +1,5 @@
 -- What the functions for C and Rust answer.
+pub mod Lent
 pub mod Chosen
 pub mod Numbers
 pub mod Out

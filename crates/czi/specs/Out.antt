@@ -19,14 +19,14 @@ use Rattle.czi.specs.Numbers.{boxNumbers}
 
 -- the interface's number: it rises with every changed signature or array length
 abbrev pub interfaceNumber : ℕ
-interfaceNumber = 1
+interfaceNumber = 2
 
 -- a verdict: the refusal's number and place, 0 and 0 where there is none
 pub record VerdictOut (v : Verdict) (number place : ℕ) : Type 0 where
   pub number-is : number ≡ numberOf v
   pub place-is : place ≡ placeOf v
 
--- a part of the file, the empty one at 0 where v refuses
+-- the part s of the file: whoever cites this names the empty one at 0 where v refuses
 pub record SpanOut (v : Verdict) (s : Span) (number place start length : ℕ) : Type 0 where
   pub number-is : number ≡ numberOf v
   pub place-is : place ≡ placeOf v

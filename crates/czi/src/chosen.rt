@@ -1,4 +1,5 @@
 // The tiles that a question selects and that meet its window, marked and counted, asked by numbers.
+use crate::verdict::release_of;
 use counting::ChosenAnswer;
 use counting::ChosenCounts;
 ghost use mathlib.Core.Path.{_≡_};
@@ -47,6 +48,7 @@ fn chosen_counts(a: ChosenAnswer) -> ChosenCounts
 #[no_mangle]
 pub extern "C" fn czi_chosen(
     file: &[u8],
+    release: u32,
     starts: &[i32],
     any_scene: u32,
     left: i32,
@@ -58,10 +60,20 @@ pub extern "C" fn czi_chosen(
     selected: &mut u64,
     meeting: &mut u64,
 ) -> u32
-    ensures { λ r. ⌜ ChosenOut (chosenAsked (now (file .entry)) (now (starts .entry)) «any_scene» left top width height) (now (marks .entry)) (now (marks .exit)) r (now (place .exit)) (now (selected .exit)) (now (meeting .exit)) ⌝ }
+    ensures { λ r. ⌜ ChosenOut (chosenAsked (now (file .entry)) release (now (starts .entry)) «any_scene» left top width height) (now (marks .entry)) (now (marks .exit)) r (now (place .exit)) (now (selected .exit)) (now (meeting .exit)) ⌝ }
 {
     let any = any_scene != 0;
-    let a = counting::chosen(file, starts, any, left, top, width, height, marks);
+    let a = counting::chosen(
+        file,
+        release_of(release),
+        starts,
+        any,
+        left,
+        top,
+        width,
+        height,
+        marks,
+    );
     let c = chosen_counts(a);
     *place = chosen_place(a);
     *selected = c.selected;

@@ -1,15 +1,16 @@
 // The summary as numbers, and the listing's text.
 use crate::verdict::number_of;
 use crate::verdict::place_of;
+use crate::verdict::release_of;
 use format::Verdict;
 use listing::Bounds;
 use listing::Summary;
 use listing::SummaryAnswer;
 ghost use mathlib.Core.Path.{_≡_};
-ghost use Rattle.format.specs.Scan.{scanOf};
 ghost use Rattle.format.specs.Rules.{verdict};
 ghost use Rattle.listing.specs.Summary.{summaryOf, summaryVerdict, summaryIn};
 ghost use Rattle.listing.specs.Listing.{listingOf};
+ghost use Rattle.czi.specs.Lent.{releaseOf, lentScan};
 ghost use Rattle.czi.specs.Numbers.{boxNumbers};
 ghost use Rattle.czi.specs.Out.{SummaryOut, TextOut};
 
@@ -82,6 +83,7 @@ fn box_numbers(b: Bounds) -> BoxNumbers
 #[no_mangle]
 pub extern "C" fn czi_summary(
     file: &[u8],
+    release: u32,
     place: &mut u64,
     bytes: &mut u64,
     segments: &mut u64,
@@ -93,9 +95,9 @@ pub extern "C" fn czi_summary(
     right: &mut i32,
     bottom: &mut i32,
 ) -> u32
-    ensures { λ r. ⌜ SummaryOut (verdict (scanOf (now (file .entry)))) (summaryOf (now (file .entry))) r (now (place .exit)) (now (bytes .exit)) (now (segments .exit)) (now (tiles .exit)) (now (attachments .exit)) (now («has_box» .exit)) (now (left .exit)) (now (top .exit)) (now (right .exit)) (now (bottom .exit)) ⌝ }
+    ensures { λ r. ⌜ SummaryOut (verdict (lentScan (now (file .entry)) release)) (summaryOf (now (file .entry))) r (now (place .exit)) (now (bytes .exit)) (now (segments .exit)) (now (tiles .exit)) (now (attachments .exit)) (now («has_box» .exit)) (now (left .exit)) (now (top .exit)) (now (right .exit)) (now (bottom .exit)) ⌝ }
 {
-    let a = listing::summarize(file);
+    let a = listing::summarize(file, release_of(release));
     let v = summary_verdict(a);
     let s = summary_in(a);
     let bounds = s.bounds;
@@ -121,10 +123,10 @@ pub extern "C" fn czi_summary(
 
 // The listing's text and its length. A refusal, 30 for what is over 65,536 bytes too, is in the text.
 #[no_mangle]
-pub extern "C" fn czi_list(file: &[u8], text: &mut [u8; 192]) -> u64
-    ensures { λ r. ⌜ TextOut (listingOf (now (file .entry))) r (now (text .exit)) ⌝ }
+pub extern "C" fn czi_list(file: &[u8], release: u32, text: &mut [u8; 192]) -> u64
+    ensures { λ r. ⌜ TextOut (listingOf (now (file .entry)) (releaseOf release)) r (now (text .exit)) ⌝ }
 {
-    let t = listing::list(file);
+    let t = listing::list(file, release_of(release));
     let length = t.length;
     let bytes = t.bytes;
     *text = bytes;

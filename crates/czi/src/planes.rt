@@ -1,4 +1,5 @@
 // The composers, asked by numbers.
+use crate::verdict::release_of;
 use question::Composed;
 use question::Masks;
 use question::WindowRequest;
@@ -100,6 +101,7 @@ fn composed_stored(c: Composed) -> u64
 #[no_mangle]
 pub extern "C" fn czi_compose_plain(
     file: &[u8],
+    release: u32,
     starts: &[i32],
     any_scene: u32,
     pixel_type: u32,
@@ -115,11 +117,20 @@ pub extern "C" fn czi_compose_plain(
     covered: &mut u64,
     stored: &mut u64,
 ) -> u32
-    ensures { λ r. ⌜ PlaneOut plain (planeAsked (now (file .entry)) (now (starts .entry)) «any_scene» «pixel_type» (now (background .entry)) left top width height masks) (now (target .entry)) (now (map .entry)) (now (target .exit)) (now (map .exit)) r (now (place .exit)) (now (covered .exit)) (now (stored .exit)) ⌝ }
+    ensures { λ r. ⌜ PlaneOut plain (planeAsked (now (file .entry)) release (now (starts .entry)) «any_scene» «pixel_type» (now (background .entry)) left top width height masks) (now (target .entry)) (now (map .entry)) (now (target .exit)) (now (map .exit)) r (now (place .exit)) (now (covered .exit)) (now (stored .exit)) ⌝ }
 {
     let f = request_of(pixel_type, left, top, width, height, masks);
     let any = any_scene != 0;
-    let c = compose::compose_plain(file, starts, any, f, background, target, map);
+    let c = compose::compose_plain(
+        file,
+        release_of(release),
+        starts,
+        any,
+        f,
+        background,
+        target,
+        map,
+    );
     *place = composed_place(c);
     *covered = composed_covered(c);
     *stored = composed_stored(c);
@@ -130,6 +141,7 @@ pub extern "C" fn czi_compose_plain(
 #[no_mangle]
 pub extern "C" fn czi_compose_quick(
     file: &[u8],
+    release: u32,
     starts: &[i32],
     any_scene: u32,
     pixel_type: u32,
@@ -145,11 +157,20 @@ pub extern "C" fn czi_compose_quick(
     covered: &mut u64,
     stored: &mut u64,
 ) -> u32
-    ensures { λ r. ⌜ PlaneOut quick (planeAsked (now (file .entry)) (now (starts .entry)) «any_scene» «pixel_type» (now (background .entry)) left top width height masks) (now (target .entry)) (now (map .entry)) (now (target .exit)) (now (map .exit)) r (now (place .exit)) (now (covered .exit)) (now (stored .exit)) ⌝ }
+    ensures { λ r. ⌜ PlaneOut quick (planeAsked (now (file .entry)) release (now (starts .entry)) «any_scene» «pixel_type» (now (background .entry)) left top width height masks) (now (target .entry)) (now (map .entry)) (now (target .exit)) (now (map .exit)) r (now (place .exit)) (now (covered .exit)) (now (stored .exit)) ⌝ }
 {
     let f = request_of(pixel_type, left, top, width, height, masks);
     let any = any_scene != 0;
-    let c = compose::compose_quick(file, starts, any, f, background, target, map);
+    let c = compose::compose_quick(
+        file,
+        release_of(release),
+        starts,
+        any,
+        f,
+        background,
+        target,
+        map,
+    );
     *place = composed_place(c);
     *covered = composed_covered(c);
     *stored = composed_stored(c);

@@ -1,6 +1,7 @@
 // The records as numbers: one tile's, dimension's or attachment's, and all tiles' or dimensions' at once.
 use crate::verdict::number_of;
 use crate::verdict::place_of;
+use crate::verdict::release_of;
 use format::AttachmentAnswer;
 use format::Dimension;
 use format::DimensionAnswer;
@@ -9,13 +10,13 @@ use format::Verdict;
 use tables::numbers::tile_numbers;
 use tables::numbers::tile_starts;
 ghost use mathlib.Core.Path.{_≡_};
-ghost use Rattle.format.specs.Scan.{scanOf};
 ghost use lib.ListN.{length};
 ghost use Rattle.format.specs.Directory.{tileCount};
 ghost use Rattle.format.specs.Rules.{tileVerdict, attachmentVerdict};
 ghost use Rattle.format.specs.Records.{dimensionVerdict, tileRecord, dimensionRecord, attachmentRecord};
 ghost use Rattle.format.specs.Answers.{dimensionVerdictIn, dimensionIn};
 ghost use Rattle.tables.specs.Tables.{tilesVerdict, TileArrays, dimensionTotal, dimensionsVerdict, DimensionArrays};
+ghost use Rattle.czi.specs.Lent.{lentScan};
 ghost use Rattle.czi.specs.Out.{TileOut, TableOut, DimensionOut, AttachmentOut};
 
 // ---- tiles
@@ -24,14 +25,15 @@ ghost use Rattle.czi.specs.Out.{TileOut, TableOut, DimensionOut, Attachm
 #[no_mangle]
 pub extern "C" fn czi_tile(
     file: &[u8],
+    release: u32,
     entry: u64,
     place: &mut u64,
     numbers: &mut [u64; 22],
     starts: &mut [i32; 3],
 ) -> u32
-    ensures { λ r. ⌜ TileOut (tileVerdict (scanOf (now (file .entry))) entry) (tileRecord (scanOf (now (file .entry))) entry) (now (numbers .entry)) (now (starts .entry)) r (now (place .exit)) (now (numbers .exit)) (now (starts .exit)) ⌝ }
+    ensures { λ r. ⌜ TileOut (tileVerdict (lentScan (now (file .entry)) release) entry) (tileRecord (lentScan (now (file .entry)) release) entry) (now (numbers .entry)) (now (starts .entry)) r (now (place .exit)) (now (numbers .exit)) (now (starts .exit)) ⌝ }
 {
-    let a = parts::tile(file, entry);
+    let a = parts::tile(file, release_of(release), entry);
     match a {
         TileAnswer::Refused { number, place: at } => {
             let v = Verdict::Refused { number, place: at };
@@ -51,15 +53,16 @@ pub extern "C" fn czi_tile(
 #[no_mangle]
 pub extern "C" fn czi_tiles(
     file: &[u8],
+    release: u32,
     numbers: &mut [u64],
     starts: &mut [i32],
     place: &mut u64,
     tiles: &mut u64,
 ) -> u32
-    ensures { λ r. ⌜ TableOut (tilesVerdict (scanOf (now (file .entry))) (length (now (numbers .entry))) (length (now (starts .entry)))) (tileCount (now (file .entry))) r (now (place .exit)) (now (tiles .exit)) ⌝ }
-    ensures { λ _. ⌜ TileArrays (scanOf (now (file .entry))) (now (numbers .entry)) (now (starts .entry)) (now (numbers .exit)) (now (starts .exit)) ⌝ }
+    ensures { λ r. ⌜ TableOut (tilesVerdict (lentScan (now (file .entry)) release) (length (now (numbers .entry))) (length (now (starts .entry)))) (tileCount (now (file .entry))) r (now (place .exit)) (now (tiles .exit)) ⌝ }
+    ensures { λ _. ⌜ TileArrays (lentScan (now (file .entry)) release) (now (numbers .entry)) (now (starts .entry)) (now (numbers .exit)) (now (starts .exit)) ⌝ }
 {
-    let t = tables::tiles::tiles(file, numbers, starts);
+    let t = tables::tiles::tiles(file, release_of(release), numbers, starts);
     let v = t.verdict;
     *place = place_of(v);
     *tiles = t.rows;
@@ -102,6 +105,7 @@ fn dimension_verdict(a: DimensionAnswer) -> Verdict
 #[no_mangle]
 pub extern "C" fn czi_dimension(
     file: &[u8],
+    release: u32,
     entry: u64,
     dimension: u64,
     place: &mut u64,
@@ -111,9 +115,9 @@ pub extern "C" fn czi_dimension(
     coordinate_bits: &mut u32,
     stored: &mut u64,
 ) -> u32
-    ensures { λ r. ⌜ DimensionOut (dimensionVerdict (scanOf (now (file .entry))) entry dimension) (dimensionRecord (scanOf (now (file .entry))) entry dimension) r (now (place .exit)) (now (letter .exit)) (now (start .exit)) (now (size .exit)) (now («coordinate_bits» .exit)) (now (stored .exit)) ⌝ }
+    ensures { λ r. ⌜ DimensionOut (dimensionVerdict (lentScan (now (file .entry)) release) entry dimension) (dimensionRecord (lentScan (now (file .entry)) release) entry dimension) r (now (place .exit)) (now (letter .exit)) (now (start .exit)) (now (size .exit)) (now («coordinate_bits» .exit)) (now (stored .exit)) ⌝ }
 {
-    let a = parts::dimension(file, entry, dimension);
+    let a = parts::dimension(file, release_of(release), entry, dimension);
     let v = dimension_verdict(a);
     let d = dimension_in(a);
     let from = d.start;
@@ -130,15 +134,16 @@ pub extern "C" fn czi_dimension(
 #[no_mangle]
 pub extern "C" fn czi_dimensions(
     file: &[u8],
+    release: u32,
     numbers: &mut [u64],
     starts: &mut [i32],
     place: &mut u64,
     dimensions: &mut u64,
 ) -> u32
-    ensures { λ r. ⌜ TableOut (dimensionsVerdict (scanOf (now (file .entry))) (length (now (numbers .entry))) (length (now (starts .entry)))) (dimensionTotal (scanOf (now (file .entry)))) r (now (place .exit)) (now (dimensions .exit)) ⌝ }
-    ensures { λ _. ⌜ DimensionArrays (scanOf (now (file .entry))) (now (numbers .entry)) (now (starts .entry)) (now (numbers .exit)) (now (starts .exit)) ⌝ }
+    ensures { λ r. ⌜ TableOut (dimensionsVerdict (lentScan (now (file .entry)) release) (length (now (numbers .entry))) (length (now (starts .entry)))) (dimensionTotal (lentScan (now (file .entry)) release)) r (now (place .exit)) (now (dimensions .exit)) ⌝ }
+    ensures { λ _. ⌜ DimensionArrays (lentScan (now (file .entry)) release) (now (numbers .entry)) (now (starts .entry)) (now (numbers .exit)) (now (starts .exit)) ⌝ }
 {
-    let t = tables::dimensions::dimensions(file, numbers, starts);
+    let t = tables::dimensions::dimensions(file, release_of(release), numbers, starts);
     let v = t.verdict;
     *place = place_of(v);
     *dimensions = t.rows;
@@ -152,6 +157,7 @@ pub extern "C" fn czi_dimensions(
 #[no_mangle]
 pub extern "C" fn czi_attachment(
     file: &[u8],
+    release: u32,
     entry: u64,
     place: &mut u64,
     guid: &mut [u8; 16],
@@ -160,9 +166,9 @@ pub extern "C" fn czi_attachment(
     start: &mut u64,
     length: &mut u64,
 ) -> u32
-    ensures { λ r. ⌜ AttachmentOut (attachmentVerdict (scanOf (now (file .entry))) entry) (now (file .entry)) (attachmentRecord (scanOf (now (file .entry))) entry) (now (guid .entry)) (now («file_type» .entry)) (now (name .entry)) (now (guid .exit)) (now («file_type» .exit)) (now (name .exit)) r (now (place .exit)) (now (start .exit)) (now (length .exit)) ⌝ }
+    ensures { λ r. ⌜ AttachmentOut (attachmentVerdict (lentScan (now (file .entry)) release) entry) (now (file .entry)) (attachmentRecord (lentScan (now (file .entry)) release) entry) (now (guid .entry)) (now («file_type» .entry)) (now (name .entry)) (now (guid .exit)) (now («file_type» .exit)) (now (name .exit)) r (now (place .exit)) (now (start .exit)) (now (length .exit)) ⌝ }
 {
-    let a = parts::attachment(file, entry);
+    let a = parts::attachment(file, release_of(release), entry);
     match a {
         AttachmentAnswer::Refused { number, place: at } => {
             let v = Verdict::Refused { number, place: at };

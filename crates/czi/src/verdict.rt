@@ -1,11 +1,12 @@
 // The verdict on a file, and what the interface says of itself.
+use format::Release;
 use format::Verdict;
 ghost use mathlib.Core.Path.{_≡_};
 ghost use Prim.Native.Nat.{_≤_};
-ghost use Rattle.format.specs.Scan.{scanOf};
 ghost use Rattle.format.specs.Checks.{numberOf, placeOf};
 ghost use Rattle.format.specs.Entry.{pixelBytes};
 ghost use Rattle.format.specs.Rules.{verdict};
+ghost use Rattle.czi.specs.Lent.{releaseOf, lentScan};
 ghost use Rattle.czi.specs.Out.{interfaceNumber, VerdictOut};
 
 // The number of the refusal, 0 where there is none.
@@ -29,12 +30,22 @@ pub fn place_of(v: Verdict) -> u64
     }
 }
 
+// The release of a number: 1 is 1.02, any other 1.2.
+pub fn release_of(release: u32) -> Release
+    ensures { λ r. ⌜ r ≡ releaseOf release ⌝ }
+{
+    if release == 1 {
+        return Release::R102;
+    }
+    Release::R12
+}
+
 // The verdict on a file.
 #[no_mangle]
-pub extern "C" fn czi_judge(file: &[u8], place: &mut u64) -> u32
-    ensures { λ r. ⌜ VerdictOut (verdict (scanOf (now (file .entry)))) r (now (place .exit)) ⌝ }
+pub extern "C" fn czi_judge(file: &[u8], release: u32, place: &mut u64) -> u32
+    ensures { λ r. ⌜ VerdictOut (verdict (lentScan (now (file .entry)) release)) r (now (place .exit)) ⌝ }
 {
-    let v = judge::judge(file);
+    let v = judge::judge(file, release_of(release));
     *place = place_of(v);
     number_of(v)
 }
@@ -44,7 +55,7 @@ pub extern "C" fn czi_judge(file: &[u8], place: &mut u64) -> u32
 pub extern "C" fn czi_version() -> u32
     ensures { λ r. ⌜ r ≡ interfaceNumber ⌝ }
 {
-    1
+    2
 }
 
 // Bytes a pixel of a type; 0 where the type is not listed.

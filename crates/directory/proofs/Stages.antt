@@ -16,6 +16,7 @@ use Rattle.format.specs.Names.{nameSubBlock}
 use Rattle.format.specs.Entry.{dimensionCount, nextEntry, filePosition}
 use Rattle.format.specs.SubBlock.{subBlockBad}
 use Rattle.format.specs.Directory.{roomEnd, directoryBad, entryPlace, headRows, tileRows, subBlockRows, entryRows}
+use Rattle.format.specs.declared.Release.{Release}
 use Rattle.format.specs.declared.Verdict.{Verdict}
 use Rattle.format.specs.declared.Verdict.the-variants.{Accepted, Refused}
 use Rattle.format.proofs.Firsts.{first-pass, first-stop, first-both, passed, rows-zero, rows-more, rows-stop}
@@ -67,27 +68,30 @@ fixed-in bs e h = omega arith
 
 -- ---- an entry that is accepted itself, and its sub-block in the file that it names
 
-pub placed : (sc : Scan) (e : ℕ) → dimensionCount (sc .file) e ≤ 16 → nextEntry (sc .file) e ≤ length (sc .file) → first (tileRows sc e) ≡ Accepted
-    → Placed (sc .file) e (blockFile sc e) (filePosition (sc .file) e)
+pub placed : (sc : Scan) (e : ℕ) → dimensionCount (sc .file) e ≤ 16 → nextEntry (sc .file) e ≤ length (sc .file)
+    → first (tileRows (sc .file) e (blockFile sc e)) ≡ Accepted → Placed (sc .file) e (blockFile sc e) (filePosition (sc .file) e)
 unfolding tileRows
-placed sc e few entry h = record {
-  listed = record { few = few; entry = entry; dimensions = passed (tileRows sc e) h 0; pixel = eqb-false _ _ (passed (tileRows sc e) h 1) };
-  within = walked-room (blockFile sc e) (filePosition (sc .file) e) nameSubBlock (not-false _ (passed (tileRows sc e) h 4));
-}
+placed sc e few entry h =
+    let g = passed (tileRows (sc .file) e (blockFile sc e)) h in
+    record {
+      listed = record { few = few; entry = entry; dimensions = g 0; pixel = eqb-false _ _ (g 1) };
+      within = walked-room (blockFile sc e) (filePosition (sc .file) e) nameSubBlock (not-false _ (g 4));
+    }
 
--- k is the index of the sub-block that it names, at q: what judging the sub-block rests on
+-- k is the index in the file bs of the sub-block, at q, that the entry at e of the file ds names, if there is one
+pub named-is : (ds : List ℕ) (e : ℕ) (bs : List ℕ) (k q : ℕ) (table : List ℕ) (count : ℕ) → q ≡ filePosition ds e → k ≡ indexAs bs q nameSubBlock
+    → WalkTable bs table count → ltb k count ≡ walkedAs bs (filePosition ds e) nameSubBlock
+named-is ds e bs k q table count f n h = rw (n, f, count-is bs table count h) (below-named bs (filePosition ds e) nameSubBlock)
+
+-- of a scan: what judging the sub-block rests on
 module _ (sc : Scan) (e k q : ℕ) (f : q ≡ filePosition (sc .file) e) (n : k ≡ indexAs (blockFile sc e) q nameSubBlock) where
-  pub named-is : (table : List ℕ) (count : ℕ) → WalkTable (blockFile sc e) table count
-      → ltb k count ≡ walkedAs (blockFile sc e) (filePosition (sc .file) e) nameSubBlock
-  named-is table count h = rw (n, f, count-is (blockFile sc e) table count h) (below-named (blockFile sc e) (filePosition (sc .file) e) nameSubBlock)
-
-  pub block-known : (flags : List ℕ) (v : Verdict) → Marked (blockFile sc e) flags
+  pub block-known : (flags : List ℕ) (v : Verdict) → Marked (blockFile sc e) flags (sc .release)
       → dimensionCount (sc .file) e ≤ 16 → nextEntry (sc .file) e ≤ length (sc .file)
-      → v ≡ first (tileRows sc e) → v ≡ Accepted → BlockKnown (sc .file) e (blockFile sc e) q flags k
+      → v ≡ first (tileRows (sc .file) e (blockFile sc e)) → v ≡ Accepted → BlockKnown (sc .file) e (blockFile sc e) q flags k (sc .release)
   unfolding tileRows
   block-known flags v m few entry j a =
-      let h : first (tileRows sc e) ≡ Accepted = sym j ∙ a in
-      let s = named (blockFile sc e) (filePosition (sc .file) e) nameSubBlock (not-false _ (passed (tileRows sc e) h 4)) in
+      let h : first (tileRows (sc .file) e (blockFile sc e)) ≡ Accepted = sym j ∙ a in
+      let s = named (blockFile sc e) (filePosition (sc .file) e) nameSubBlock (not-false _ (passed (tileRows (sc .file) e (blockFile sc e)) h 4)) in
       rw (n, f)
       (record {
         placed = placed sc e few entry h;
@@ -109,9 +113,9 @@ module _ (ds : List ℕ) (e : ℕ) (bs : List ℕ) (q : ℕ) where
   pub copy-agrees : (r : Bool) → Placed ds e bs q → r ≡ subBlockBad ds e bs q → r ≡ false → CopyAgrees ds e bs q
   copy-agrees r p j a = record { placed = p; block = sym j ∙ a }
 
-  pub chunks-known : (flags : List ℕ) (k : ℕ) (v : Verdict) → BlockKnown ds e bs q flags k → v ≡ first (subBlockRows ds e bs q) → v ≡ Accepted
-      → ChunksKnown ds e bs q flags k
-  chunks-known flags k v b j a = record { filled = filled (b .placed) (sym j ∙ a); stands = b .stands; marked = b .marked }
+  pub chunks-known : (flags : List ℕ) (k : ℕ) (r : Release) (v : Verdict) → BlockKnown ds e bs q flags k r → v ≡ first (subBlockRows ds e bs q) → v ≡ Accepted
+      → ChunksKnown ds e bs q flags k r
+  chunks-known flags k r v b j a = record { filled = filled (b .placed) (sym j ∙ a); stands = b .stands; marked = b .marked }
 
 -- ---- the loop over the entries: those below k are accepted, the next is at e, and the flags are right
 
@@ -120,15 +124,15 @@ pub record Entries (sc : Scan) (flags : List ℕ) (d n e k : ℕ) : Type 0 where
   pub place : e ≡ entryPlace (sc .file) k
   pub within : e ≤ roomEnd (sc .file) d
   pub accepted : first (rowsBelow k (λ i. entryRows sc d (entryPlace (sc .file) i))) ≡ Accepted
-  pub marked : Marked (sc .file) flags
+  pub marked : Marked (sc .file) flags (sc .release)
 
 pub entries-start : (sc : Scan) (flags : List ℕ) (d n e : ℕ) → e ≡ entryPlace (sc .file) 0 → entryPlace (sc .file) 0 ≤ roomEnd (sc .file) d
-    → Marked (sc .file) flags → Entries sc flags d n e 0
+    → Marked (sc .file) flags (sc .release) → Entries sc flags d n e 0
 entries-start sc flags d n e p h m = record { count = omega arith; place = p; within = omega arith; accepted = rows-zero _; marked = m }
 
 -- an accepted entry: it lies in the file, and the next one in the directory too
 module _ (sc : Scan) (d e : ℕ) (r : RoomIn (sc .file) d) (flags : List ℕ) (v : Verdict)
-    (j : AnsweredMarked (sc .file) (entryRows sc d e) flags v) (a : v ≡ Accepted) where
+    (j : AnsweredMarked (sc .file) (entryRows sc d e) flags (sc .release) v) (a : v ≡ Accepted) where
   next : Headed (sc .file) d e
   unfolding entryRows
   next = headed (sc .file) d e r (first-both (headRows (sc .file) d e) _ (sym (j .verdict-is) ∙ a) .0)
@@ -137,7 +141,7 @@ module _ (sc : Scan) (d e : ℕ) (r : RoomIn (sc .file) d) (flags : List ℕ) (v
   entry-in = fixed-in (sc .file) e (next .entry)
 
 module _ (sc : Scan) (flags : List ℕ) (d n e k : ℕ) (i : Entries sc flags d n e k) where
-  module _ (after : List ℕ) (v : Verdict) (j : AnsweredMarked (sc .file) (entryRows sc d e) after v) (l : k < n) where
+  module _ (after : List ℕ) (v : Verdict) (j : AnsweredMarked (sc .file) (entryRows sc d e) after (sc .release) v) (l : k < n) where
     rows-here : first (entryRows sc d (entryPlace (sc .file) k)) ≡ v
     rows-here = rw (← i .place) (sym (j .verdict-is))
 

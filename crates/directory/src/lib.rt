@@ -1,10 +1,11 @@
 // Judges the sub-block directory: its own refusal 10, and each entry with its sub-block in order. Of a sub-block, the entry lies in the slice d and the
 // sub-block in the slice s; which file of a scan that is, the function that judges the entry's body says.
+use format::Release;
 use format::Verdict;
 ghost use mathlib.Core.Path.{_≡_};
 ghost use Prim.Native.Nat.{_+_, _<_, _≤_, _^_};
 ghost use lib.ListN.{length};
-ghost use Rattle.format.specs.Scan.{scanOf, blockFile};
+ghost use Rattle.format.specs.Scan.{scanOf};
 ghost use Rattle.format.specs.Checks.{first, rowsBelow};
 ghost use Rattle.format.specs.Names.{nameSubBlock};
 ghost use Rattle.format.specs.Segments.{RoomIn, walkedAs};
@@ -93,8 +94,8 @@ fn judge_head(s: &[u8], d: u64, e: u64) -> Verdict
 // The rest of the entry itself: 11, 12, 13, 7, 14. A search in the table has told whether it names a sub-block.
 fn judge_tile(s: &[u8], e: u64, named: bool) -> Verdict
     requires { ⌜ (dimensionCount (now s) e ≤ 16) × (nextEntry (now s) e ≤ length (now s)) ⌝ }
-    requires { ⌜ named ≡ walkedAs (blockFile (scanOf (now s)) e) (filePosition (now s) e) nameSubBlock ⌝ }
-    ensures { λ r. ⌜ r ≡ first (tileRows (scanOf (now (s .entry))) e) ⌝ }
+    requires { ⌜ named ≡ walkedAs (now s) (filePosition (now s) e) nameSubBlock ⌝ }
+    ensures { λ r. ⌜ r ≡ first (tileRows (now (s .entry)) e (now (s .entry))) ⌝ }
 {
     if entries::dimensions_bad(s, e) {
         return Verdict::Refused {
@@ -155,16 +156,17 @@ fn judge_chunks_once(
     e: u64,
     s: &[u8],
     q: u64,
+    release: Release,
     judged: &mut [u8; 8192],
     k: usize,
 ) -> Verdict
-    requires { ⌜ ChunksKnown (now d) e (now s) q (now judged) k ⌝ }
-    ensures { λ r. ⌜ ChunksAnswered (now (s .entry)) (attachmentRows (now (d .entry)) e (now (s .entry)) q) (now (judged .exit)) k r ⌝ }
+    requires { ⌜ ChunksKnown (now d) e (now s) q (now judged) k release ⌝ }
+    ensures { λ r. ⌜ ChunksAnswered (now (s .entry)) (attachmentRows (now (d .entry)) e (now (s .entry)) q release) (now (judged .exit)) k release r ⌝ }
 {
     if judged[k] != 0 {
         return Verdict::Accepted;
     }
-    let v = subblocks::judge_attachment(d, e, s, q);
+    let v = subblocks::judge_attachment(d, e, s, q, release);
     match v {
         Verdict::Refused { number, place } => Verdict::Refused { number, place },
         Verdict::Accepted => {
@@ -175,42 +177,52 @@ fn judge_chunks_once(
 }
 
 // The sub-block and its attachment's chunks: 15, 16, 17, 18.
-fn judge_block(d: &[u8], e: u64, s: &[u8], q: u64, judged: &mut [u8; 8192], k: usize) -> Verdict
-    requires { ⌜ BlockKnown (now d) e (now s) q (now judged) k ⌝ }
-    ensures { λ r. ⌜ AnsweredMarked (now (s .entry)) (blockRows (now (d .entry)) e (now (s .entry)) q) (now (judged .exit)) r ⌝ }
+fn judge_block(
+    d: &[u8],
+    e: u64,
+    s: &[u8],
+    q: u64,
+    release: Release,
+    judged: &mut [u8; 8192],
+    k: usize,
+) -> Verdict
+    requires { ⌜ BlockKnown (now d) e (now s) q (now judged) k release ⌝ }
+    ensures { λ r. ⌜ AnsweredMarked (now (s .entry)) (blockRows (now (d .entry)) e (now (s .entry)) q release) (now (judged .exit)) release r ⌝ }
 {
     let v = judge_sub_block(d, e, s, q);
     match v {
         Verdict::Refused { number, place } => Verdict::Refused { number, place },
-        Verdict::Accepted => judge_chunks_once(d, e, s, q, judged, k),
+        Verdict::Accepted => judge_chunks_once(d, e, s, q, release, judged, k),
     }
 }
 
 // An entry whose head is right, and its sub-block: 11, 12, 13, 7, 14 to 18.
 fn judge_body(
     s: &[u8],
+    release: Release,
     table: &[u64; 8192],
     count: usize,
     judged: &mut [u8; 8192],
     e: u64,
 ) -> Verdict
     requires { ⌜ WalkTable (now s) (now table) count ⌝ }
-    requires { ⌜ Marked (now s) (now judged) ⌝ }
+    requires { ⌜ Marked (now s) (now judged) release ⌝ }
     requires { ⌜ (dimensionCount (now s) e ≤ 16) × (nextEntry (now s) e ≤ length (now s)) ⌝ }
-    ensures { λ r. ⌜ AnsweredMarked (now (s .entry)) (bodyRows (scanOf (now (s .entry))) e) (now (judged .exit)) r ⌝ }
+    ensures { λ r. ⌜ AnsweredMarked (now (s .entry)) (bodyRows (scanOf (now (s .entry)) release) e) (now (judged .exit)) release r ⌝ }
 {
     let q = entries::file_position(s, e);
     let k = segments::index_as(s, table, count, q, b"ZISRAWSUBBLOCK\0\0");
     let v = judge_tile(s, e, k < count);
     match v {
         Verdict::Refused { number, place } => Verdict::Refused { number, place },
-        Verdict::Accepted => judge_block(s, e, s, q, judged, k),
+        Verdict::Accepted => judge_block(s, e, s, q, release, judged, k),
     }
 }
 
 // The entry at e of the directory at d.
 fn judge_entry(
     s: &[u8],
+    release: Release,
     table: &[u64; 8192],
     count: usize,
     judged: &mut [u8; 8192],
@@ -218,30 +230,37 @@ fn judge_entry(
     e: u64,
 ) -> Verdict
     requires { ⌜ WalkTable (now s) (now table) count ⌝ }
-    requires { ⌜ Marked (now s) (now judged) ⌝ }
+    requires { ⌜ Marked (now s) (now judged) release ⌝ }
     requires { ⌜ RoomIn (now s) d ⌝ }
     requires { ⌜ e ≤ roomEnd (now s) d ⌝ }
-    ensures { λ r. ⌜ AnsweredMarked (now (s .entry)) (entryRows (scanOf (now (s .entry))) d e) (now (judged .exit)) r ⌝ }
+    ensures { λ r. ⌜ AnsweredMarked (now (s .entry)) (entryRows (scanOf (now (s .entry)) release) d e) (now (judged .exit)) release r ⌝ }
 {
     let v = judge_head(s, d, e);
     match v {
         Verdict::Refused { number, place } => Verdict::Refused { number, place },
-        Verdict::Accepted => judge_body(s, table, count, judged, e),
+        Verdict::Accepted => judge_body(s, release, table, count, judged, e),
     }
 }
 
 // The entries of the directory, in order.
-fn judge_entries(s: &[u8], table: &[u64; 8192], count: usize, d: u64, n: u64) -> Verdict
+fn judge_entries(
+    s: &[u8],
+    release: Release,
+    table: &[u64; 8192],
+    count: usize,
+    d: u64,
+    n: u64,
+) -> Verdict
     requires { ⌜ WalkTable (now s) (now table) count ⌝ }
     requires { ⌜ RoomIn (now s) d ⌝ }
     requires { ⌜ (112 ≤ length (now s)) × (entryPlace (now s) 0 ≤ roomEnd (now s) d) ⌝ }
-    ensures { λ r. ⌜ r ≡ first (rowsBelow n (λ k. entryRows (scanOf (now (s .entry))) d (entryPlace (now (s .entry)) k))) ⌝ }
+    ensures { λ r. ⌜ r ≡ first (rowsBelow n (λ k. entryRows (scanOf (now (s .entry)) release) d (entryPlace (now (s .entry)) k))) ⌝ }
 {
     let mut judged = [0u8; 8192];
     let mut e = first_entry(s);
     let mut k: u64 = 0;
     while k < n {
-        let v = judge_entry(s, table, count, &mut judged, d, e);
+        let v = judge_entry(s, release, table, count, &mut judged, d, e);
         match v {
             Verdict::Refused { number, place } => {
                 return Verdict::Refused { number, place };
@@ -256,10 +275,10 @@ fn judge_entries(s: &[u8], table: &[u64; 8192], count: usize, d: u64, n: u64) ->
 }
 
 // The directory that the file segment names.
-pub fn judge_directory(s: &[u8], table: &[u64; 8192], count: usize) -> Verdict
+pub fn judge_directory(s: &[u8], release: Release, table: &[u64; 8192], count: usize) -> Verdict
     requires { ⌜ WalkTable (now s) (now table) count ⌝ }
     requires { ⌜ (112 ≤ length (now s)) × RoomIn (now s) (directoryPosition (now s)) ⌝ }
-    ensures { λ r. ⌜ r ≡ first (directoryRows (scanOf (now (s .entry)))) ⌝ }
+    ensures { λ r. ⌜ r ≡ first (directoryRows (scanOf (now (s .entry)) release)) ⌝ }
 {
     let d = segments::file::directory_position(s);
     if directory_bad(s, d) {
@@ -268,5 +287,5 @@ pub fn judge_directory(s: &[u8], table: &[u64; 8192], count: usize) -> Verdict
             place: d,
         };
     }
-    judge_entries(s, table, count, d, entry_count(s, d))
+    judge_entries(s, release, table, count, d, entry_count(s, d))
 }

@@ -4,6 +4,7 @@ use mathlib.Core.Path.{_≡_, refl}
 use mathlib.Core.Logic.{_⊎_, _↔_, inl, inr, ⊎-elim}
 use mathlib.Core.List.{List, [], _∷_}
 use mathlib.Core.Bool.{true, false, cond}
+use native.Mathlib.Omega.{arith}
 use lib.Dec.{eqb}
 use borrow.Author.Tests.{le-ltb, ltb-false, eq-eqb, ne-eqb, eqb-true, eqb-false, not-false}
 use Rattle.format.specs.Names.{nameMetadata, nameAttachmentDirectory}
@@ -19,6 +20,8 @@ use Rattle.format.specs.Directory.{tileCount, entryPlace, directoryBad, 
 use Rattle.format.specs.Attachments.{metadataBad, metadataRows, attachmentDirectoryBad, attachmentEntryCount, attachmentEntry}
 use Rattle.format.specs.Attachments.{attachmentEntryRows, attachmentDirectoryRows, attachmentsRows}
 use Rattle.format.specs.WellFormed.{DeclaresChunks, ChunksFill, Names, Entry, AttachmentEntry, AttachmentDirectory}
+use Rattle.format.specs.declared.Release.{Release}
+use Rattle.format.specs.declared.Release.the-variants.{R102, R12}
 use Rattle.format.specs.declared.Verdict.the-variants.{Accepted}
 use Rattle.format.proofs.Below.{by-bool}
 use Rattle.format.proofs.Firsts.{first-passed, passed, passed-rest, rows-each, rows-all}
@@ -28,21 +31,29 @@ use Rattle.format.proofs.ChunkWalk.{chunks-ok, chunks-accepted}
 
 -- ---- a sub-block's attachment
 
+-- 1.02 is not 1.2
+older-is-not : R102 ≡ R12 → ⊥
+older-is-not e = let z : _≡_ {A = ℕ} 0 1 = cc in absurd (omega arith)
+
 module _ (ds : List ℕ) (e : ℕ) (bs : List ℕ) (q : ℕ) where
-  chunks-declared : DeclaresChunks ds e bs q ↔ (hasChunks ds e bs q ≡ true)
+  chunks-declared : (r : Release) → DeclaresChunks ds e bs q r ↔ (hasChunks ds e bs q r ≡ true)
   unfolding hasChunks
-  chunks-declared = container-iff bs (metadataPlace ds e q) (metadataSize bs q)
+  chunks-declared R102 = (λ d. absurd (older-is-not (d .0)), λ h. let z : _≡_ {A = ℕ} 0 1 = cc in absurd (omega arith))
+  chunks-declared R12 =
+      let declared = container-iff bs (metadataPlace ds e q) (metadataSize bs q) in
+      (λ d. declared .0 (d .1), λ h. (refl, declared .1 h))
 
-  container-ok : first (attachmentRows ds e bs q) ≡ Accepted → DeclaresChunks ds e bs q → ChunksFill ds e bs q
-  unfolding attachmentRows
-  container-ok a d = let c = chunks-declared .0 d in chunks-ok bs (attachmentSize bs q) (attachmentPlace ds e bs q) (rw c at a)
+  module _ (r : Release) where
+    container-ok : first (attachmentRows ds e bs q r) ≡ Accepted → DeclaresChunks ds e bs q r → ChunksFill ds e bs q
+    unfolding attachmentRows
+    container-ok a d = let c = chunks-declared r .0 d in chunks-ok bs (attachmentSize bs q) (attachmentPlace ds e bs q) (rw c at a)
 
-  container-accepted : (DeclaresChunks ds e bs q → ChunksFill ds e bs q) → first (attachmentRows ds e bs q) ≡ Accepted
-  unfolding attachmentRows
-  container-accepted h =
-      by-bool (hasChunks ds e bs q)
-      (λ c. rw c (chunks-accepted bs (attachmentSize bs q) (attachmentPlace ds e bs q) (h (chunks-declared .1 c))))
-      (λ c. rw c)
+    container-accepted : (DeclaresChunks ds e bs q r → ChunksFill ds e bs q) → first (attachmentRows ds e bs q r) ≡ Accepted
+    unfolding attachmentRows
+    container-accepted h =
+        by-bool (hasChunks ds e bs q r)
+        (λ c. rw c (chunks-accepted bs (attachmentSize bs q) (attachmentPlace ds e bs q) (h (chunks-declared r .1 c))))
+        (λ c. rw c)
 
 -- ---- an entry DV
 
@@ -62,7 +73,7 @@ module _ (sc : Scan) (d e : ℕ) where
         names = names-ok (blockFile sc e) _ _ (not-false _ (g 7));
         block = g 8;
         contents = g 9;
-        container = container-ok (sc .file) e (blockFile sc e) (filePosition (sc .file) e) (passed-rest (entryRows sc d e) x 10);
+        container = container-ok (sc .file) e (blockFile sc e) (filePosition (sc .file) e) (sc .release) (passed-rest (entryRows sc d e) x 10);
       }
 
   entry-accepted : Entry sc (walked (blockFile sc e)) d e → first (entryRows sc d e) ≡ Accepted
@@ -80,7 +91,7 @@ module _ (sc : Scan) (d e : ℕ) where
         x .block,
         x .contents,
       )
-      (container-accepted (sc .file) e (blockFile sc e) (filePosition (sc .file) e) (x .container))
+      (container-accepted (sc .file) e (blockFile sc e) (filePosition (sc .file) e) (sc .release) (x .container))
 
 -- ---- an entry A1
 

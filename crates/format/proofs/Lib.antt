@@ -9,6 +9,8 @@ pub mod Walk
 pub mod ChunkWalk
 pub mod FileRows
 pub mod Acceptance
+pub mod ReleaseRows
+pub mod Releases
 pub mod Reading
 pub mod Stretches
 pub mod Attributes

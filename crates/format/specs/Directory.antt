@@ -12,6 +12,7 @@ use Rattle.format.specs.File.{directoryPosition}
 use Rattle.format.specs.Entry.{pixelType, pixelBytes, filePosition, entryPart, compression, nextEntry, headBad, dimensionsBad}
 use Rattle.format.specs.SubBlock.{attachmentSize, subBlockBad, contentsBad, attachmentPlace}
 use Rattle.format.specs.Masks.{chunksRows, hasChunks}
+use Rattle.format.specs.declared.Release.{Release}
 
 -- ---- EntryCount Int 0, entries from 128, one after the other
 
@@ -49,13 +50,14 @@ headRows bs d e =
     row 10 d (ltb (roomEnd bs d) (nextEntry bs e)) ∷
     []
 
-unfoldable pub tileRows : Scan → ℕ → List Check
-tileRows sc e =
-    row 11 e (dimensionsBad (sc .file) e) ∷
-    row 12 e (eqb (pixelBytes (pixelType (sc .file) e)) 0) ∷
-    row 13 e (not (eqb (compression (sc .file) e) 0)) ∷
-    row 7 e (not (eqb (entryPart (sc .file) e) 0)) ∷
-    row 14 e (not (walkedAs (blockFile sc e) (filePosition (sc .file) e) nameSubBlock)) ∷
+-- the entry stands at e of the file ds, its sub-block in the file bs
+unfoldable pub tileRows : List ℕ → ℕ → List ℕ → List Check
+tileRows ds e bs =
+    row 11 e (dimensionsBad ds e) ∷
+    row 12 e (eqb (pixelBytes (pixelType ds e)) 0) ∷
+    row 13 e (not (eqb (compression ds e) 0)) ∷
+    row 7 e (not (eqb (entryPart ds e) 0)) ∷
+    row 14 e (not (walkedAs bs (filePosition ds e) nameSubBlock)) ∷
     []
 
 unfoldable pub subBlockRows : List ℕ → ℕ → List ℕ → ℕ → List Check
@@ -65,18 +67,18 @@ subBlockRows ds e bs q =
     []
 
 -- the attachment's chunks, where it is a chunk container
-unfoldable pub attachmentRows : List ℕ → ℕ → List ℕ → ℕ → List Check
-attachmentRows ds e bs q =
-    cond (hasChunks ds e bs q)
+unfoldable pub attachmentRows : List ℕ → ℕ → List ℕ → ℕ → Release → List Check
+attachmentRows ds e bs q r =
+    cond (hasChunks ds e bs q r)
     (chunksRows (attachmentSize bs q) bs (attachmentPlace ds e bs q + attachmentSize bs q) false (attachmentPlace ds e bs q))
     []
 
 unfoldable pub entryRows : Scan → ℕ → ℕ → List Check
 entryRows sc d e =
     headRows (sc .file) d e ++
-    (tileRows sc e ++
+    (tileRows (sc .file) e (blockFile sc e) ++
     (subBlockRows (sc .file) e (blockFile sc e) (filePosition (sc .file) e) ++
-    attachmentRows (sc .file) e (blockFile sc e) (filePosition (sc .file) e)))
+    attachmentRows (sc .file) e (blockFile sc e) (filePosition (sc .file) e) (sc .release)))
 
 unfoldable pub directoryRows : Scan → List Check
 directoryRows sc =

@@ -18,3 +18,4 @@ pub mod Records
 pub mod Answers
 pub mod Views
 pub mod WellFormed
+pub mod Releases

@@ -10,17 +10,21 @@ use Rattle.format.specs.Names.{maskGuid}
 use Rattle.format.specs.Container.{isContainer}
 use Rattle.format.specs.Checks.{Check, row}
 use Rattle.format.specs.SubBlock.{metadataSize, metadataPlace}
+use Rattle.format.specs.declared.Release.{Release}
+use Rattle.format.specs.declared.Release.the-variants.{R102, R12}
 use Rattle.format.specs.declared.MaskShape.{MaskShape}
 use Rattle.format.specs.declared.Content.the-variants.{Mask, Other}
 use Rattle.format.specs.declared.Chunk.{Chunk}
 use Rattle.format.specs.declared.TileMask.{TileMask}
 use Rattle.format.specs.declared.TileMask.the-variants.{Unmasked, Masked}
 
--- ---- the attachment is a chunk container when its metadata declare one
+-- ---- under 1.2 the attachment is a chunk container when the sub-block's metadata declare one; under 1.02 every attachment is plain bytes
 
--- the attachment of the sub-block at q of the file bs, its entry at e of the file ds, is a chunk container
-unfoldable pub hasChunks : List ℕ → ℕ → List ℕ → ℕ → Bool
-hasChunks ds e bs q = isContainer bs (metadataPlace ds e q) (metadataSize bs q)
+-- the attachment of the sub-block at q of the file bs, its entry at e of the file ds, is a chunk container. Rows and masks
+-- depend on the release through this alone
+unfoldable pub hasChunks : List ℕ → ℕ → List ℕ → ℕ → Release → Bool
+hasChunks ds e bs q R102 = false
+hasChunks ds e bs q R12 = isContainer bs (metadataPlace ds e q) (metadataSize bs q)
 
 -- ---- a chunk: GUID (16), size Int at 16, payload from 20; the next follows at once
 

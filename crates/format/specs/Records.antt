@@ -14,6 +14,7 @@ use Rattle.format.specs.Masks.{maskFrom, hasChunks}
 use Rattle.format.specs.Directory.{tileCount, entryPlace}
 use Rattle.format.specs.Attachments.{xmlSize, xmlAttachmentSize, attachmentEntry, attachmentPosition, attachmentDataSize}
 use Rattle.format.specs.Rules.{checks, verdict, tileVerdict, attachmentVerdict}
+use Rattle.format.specs.declared.Release.{Release}
 use Rattle.format.specs.declared.Verdict.{Verdict}
 use Rattle.format.specs.declared.Verdict.the-variants as Is
 use Rattle.format.specs.declared.Span.{Span}
@@ -63,10 +64,10 @@ pixelsSpan ds e bs q = span (pixelsPlace ds e bs q) (dataSize bs q)
 unfoldable pub attachmentSpan : List ℕ → ℕ → List ℕ → ℕ → Span
 attachmentSpan ds e bs q = span (attachmentPlace ds e bs q) (attachmentSize bs q)
 
--- its mask: a tile with no mask is valid everywhere
-unfoldable pub maskOf : List ℕ → ℕ → List ℕ → ℕ → TileMask
-maskOf ds e bs q =
-    cond (hasChunks ds e bs q)
+-- its mask, under 1.02 none: a tile with no mask is valid everywhere
+unfoldable pub maskOf : List ℕ → ℕ → List ℕ → ℕ → Release → TileMask
+maskOf ds e bs q r =
+    cond (hasChunks ds e bs q r)
     (maskFrom (attachmentSize bs q) bs (attachmentPlace ds e bs q + attachmentSize bs q) (attachmentPlace ds e bs q))
     Unmasked
 
@@ -81,8 +82,8 @@ unfoldable pub mIndexOf : List ℕ → ℕ → MIndex
 mIndexOf bs e = cond (anyBelow (dimensionCount bs e) (hasLetter bs e 77)) (M (signed32 (start bs (letterPlace bs e 77)))) NoM
 
 -- of entry n, which stands at e of the file ds, and its sub-block at q of the file bs
-unfoldable pub tileAt : ℕ → List ℕ → ℕ → List ℕ → ℕ → Tile
-tileAt n ds e bs q =
+unfoldable pub tileAt : ℕ → List ℕ → ℕ → List ℕ → ℕ → Release → Tile
+tileAt n ds e bs q r =
     record {
       entry = n;
       place = e;
@@ -96,12 +97,12 @@ tileAt n ds e bs q =
       metadata = metadataSpan ds e bs q;
       pixels = pixelsSpan ds e bs q;
       attachment = attachmentSpan ds e bs q;
-      mask = maskOf ds e bs q;
+      mask = maskOf ds e bs q r;
     }
 
 -- of entry n of a scan
 unfoldable pub tileRecord : Scan → ℕ → Tile
-tileRecord sc n = tileAt n (sc .file) (tileEntry sc n) (tileFile sc n) (tilePosition sc n)
+tileRecord sc n = tileAt n (sc .file) (tileEntry sc n) (tileFile sc n) (tilePosition sc n) (sc .release)
 
 -- the answer, by the verdict
 abbrev pub tileIf : Verdict → Tile → TileAnswer

@@ -1,4 +1,5 @@
--- A well-formed file, said without rows, order or a walk: its segments tile it, its fields are right, each entry agrees with the segment it names.
+-- A well-formed file, under the release of its scan, said without rows, order or a walk: its segments tile it, its fields are right, each entry agrees with
+-- the segment it names.
 use Prim.Native.Nat.{ℕ, _+_, _≤_, _<_}
 use mathlib.Core.Path.{_≡_}
 use mathlib.Core.Logic.{_⊎_}
@@ -13,6 +14,8 @@ use Rattle.format.specs.File.{major, filePart, updatePending, directoryP
 use Rattle.format.specs.Entry.{pixelType, pixelBytes, filePosition, entryPart, compression, nextEntry, headBad, dimensionsBad}
 use Rattle.format.specs.SubBlock.{metadataSize, attachmentSize, subBlockBad, contentsBad, metadataPlace, attachmentPlace}
 use Rattle.format.specs.Container.{Container}
+use Rattle.format.specs.declared.Release.{Release}
+use Rattle.format.specs.declared.Release.the-variants.{R12}
 use Rattle.format.specs.Masks.{nextChunk, chunkBad, isMask, maskBad}
 use Rattle.format.specs.Directory.{roomEnd, tileCount, entryPlace, directoryBad}
 use Rattle.format.specs.Attachments.{metadataBad, attachmentDirectoryBad, attachmentEntryCount, attachmentEntry, attachmentPosition, attachmentPart, attachmentEntryBad, attachmentBad, attachmentDataBad}
@@ -50,11 +53,11 @@ pub record Chunks (bs : List ℕ) (a end : ℕ) : Type 0 where
   pub mask : Each (λ c. isMask bs c ≡ true → maskBad bs c ≡ false) chunks
   pub one : (i j : ℕ) → i < length chunks → j < length chunks → isMask bs (getD chunks i 0) ≡ true → isMask bs (getD chunks j 0) ≡ true → i ≡ j
 
--- the sub-block at q of the file bs, its entry at e of the file ds: its metadata declare a container
-abbrev pub DeclaresChunks : List ℕ → ℕ → List ℕ → ℕ → Type 0
-DeclaresChunks ds e bs q = Container (partOf bs (metadataPlace ds e q) (metadataSize bs q))
+-- the sub-block at q of the file bs, its entry at e of the file ds: the release is 1.2, and its metadata declare a container
+abbrev pub DeclaresChunks : List ℕ → ℕ → List ℕ → ℕ → Release → Type 0
+DeclaresChunks ds e bs q r = (r ≡ R12) × Container (partOf bs (metadataPlace ds e q) (metadataSize bs q))
 
--- its attachment is filled by right chunks
+-- its attachment is filled by right chunks, at most one of them a mask
 abbrev pub ChunksFill : List ℕ → ℕ → List ℕ → ℕ → Type 0
 ChunksFill ds e bs q = Chunks bs (attachmentPlace ds e bs q) (attachmentPlace ds e bs q + attachmentSize bs q)
 
@@ -71,7 +74,7 @@ pub record Entry (sc : Scan) (segments : List ℕ) (d e : ℕ) : Type 0 where
   pub names : Names (blockFile sc e) segments (filePosition (sc .file) e) nameSubBlock
   pub block : subBlockBad (sc .file) e (blockFile sc e) (filePosition (sc .file) e) ≡ false
   pub contents : contentsBad (sc .file) e (blockFile sc e) (filePosition (sc .file) e) ≡ false
-  pub container : DeclaresChunks (sc .file) e (blockFile sc e) (filePosition (sc .file) e)
+  pub container : DeclaresChunks (sc .file) e (blockFile sc e) (filePosition (sc .file) e) (sc .release)
       → ChunksFill (sc .file) e (blockFile sc e) (filePosition (sc .file) e)
 
 -- ---- an entry A1 at e, and its attachment

@@ -6,6 +6,12 @@ pub enum Verdict {
     Refused { number: u64, place: u64 },
 }
 
+// The release of the format that a file is judged by: 1.02, in which a sub-block's attachment is plain bytes, or 1.2, in which it may be a chunk container.
+pub enum Release {
+    R102,
+    R12,
+}
+
 // A stretch of the file: its first byte and how many there are. The empty one is 0, 0.
 pub struct Span {
     pub start: u64,
@@ -32,7 +38,7 @@ pub struct Chunk {
     pub content: Content,
 }
 
-// A tile's mask: the place of its chunk's header in the file and its dimensions.
+// A tile's mask, or none: the place of its chunk's header in the file and its dimensions.
 pub enum TileMask {
     Unmasked,
     Masked { place: u64, shape: MaskShape },
@@ -51,7 +57,7 @@ pub enum MIndex {
     M(i32),
 }
 
-// The tile record: what an entry of the sub-block directory and its sub-block say.
+// The tile record: what an entry of the sub-block directory and its sub-block say, under a release.
 pub struct Tile {
     pub entry: u64,
     pub place: u64,

@@ -1,6 +1,6 @@
 -- What an accepted file has: its entries are judged, and all that is handed out lies in it. Assumes nothing.
 use Prim.Native.Nat.{ℕ, _+_, _^_, _≤_, _<_}
-use mathlib.Core.Path.{_≡_, refl, _∙_}
+use mathlib.Core.Path.{_≡_, refl, sym, _∙_}
 use mathlib.Core.List.{List}
 use native.Mathlib.Omega.{arith}
 use lib.ListN.{length}
@@ -15,8 +15,11 @@ use Rattle.format.specs.Directory.{tileCount, entryCount, entryPlace, directory
 use Rattle.format.specs.Attachments.{xmlSize, xmlAttachmentSize, metadataBad, metadataRows}
 use Rattle.format.specs.Attachments.{attachmentEntryCount, attachmentEntry, attachmentDirectoryBad, attachmentPosition, attachmentDataSize, attachmentDataBad}
 use Rattle.format.specs.Attachments.{attachmentEntryRows, attachmentDirectoryRows, attachmentsRows}
-use Rattle.format.specs.Rules.{verdict}
+use Rattle.format.specs.Rules.{verdict, AcceptedFile}
+use Rattle.format.specs.Answers.{VerdictAnswered}
 use Rattle.format.specs.Records.{tileEntry, tileFile, tilePosition}
+use Rattle.format.specs.declared.Release.{Release}
+use Rattle.format.specs.declared.Verdict.{Verdict}
 use Rattle.format.specs.declared.Verdict.the-variants.{Accepted}
 use Rattle.format.proofs.Below.{none}
 use Rattle.format.proofs.Firsts.{first-both, first-passed, passed, rows-each}
@@ -24,7 +27,7 @@ use Rattle.format.proofs.SegmentLaws.{walked-room}
 use Rattle.format.proofs.Walk.{file-long}
 use Rattle.format.proofs.Acceptance.{verdict-parts}
 use Rattle.segments.proofs.Walking.{file-small}
-use Rattle.subblocks.specs.Judged.{Judged}
+use Rattle.subblocks.specs.Judged.{Listed, Judged}
 use Rattle.directory.proofs.Stages.{headed, placed, filled}
 use Rattle.attachments.proofs.AttachmentLaws.{entries-within, entry-within}
 use Rattle.judge.proofs.LocatedLaws.{located}
@@ -32,12 +35,12 @@ use Rattle.judge.proofs.LocatedLaws.{located}
 -- ---- tiles
 
 pub entry-judged : (sc : Scan) (d e : ℕ) → RoomIn (sc .file) d → first (entryRows sc d e) ≡ Accepted
-    → Judged (sc .file) e (blockFile sc e) (filePosition (sc .file) e)
+    → Judged (sc .file) e (blockFile sc e) (filePosition (sc .file) e) (sc .release)
 unfolding entryRows
 entry-judged sc d e r h =
     let q = filePosition (sc .file) e in
     let a = first-both (headRows (sc .file) d e) _ h in
-    let b = first-both (tileRows sc e) _ (a .1) in
+    let b = first-both (tileRows (sc .file) e (blockFile sc e)) _ (a .1) in
     let c = first-both (subBlockRows (sc .file) e (blockFile sc e) q) _ (b .1) in
     let i = headed (sc .file) d e r (a .0) in
     record { filled = filled (sc .file) e (blockFile sc e) q (placed sc e (i .few) (i .entry) (b .0)) (c .0); attachment = c .1 }
@@ -49,7 +52,7 @@ pub record Tiled (sc : Scan) : Type 0 where
   pub count : directoryPosition (sc .file) + 36 ≤ length (sc .file)
   pub entries : entryPlace (sc .file) 0 ≤ length (sc .file)
   pub few : tileCount (sc .file) ≤ 4096
-  pub tile : (k : ℕ) → k < tileCount (sc .file) → Judged (sc .file) (tileEntry sc k) (tileFile sc k) (tilePosition sc k)
+  pub tile : (k : ℕ) → k < tileCount (sc .file) → Judged (sc .file) (tileEntry sc k) (tileFile sc k) (tilePosition sc k) (sc .release)
 
 pub tiled : (sc : Scan) → verdict sc ≡ Accepted → Tiled sc
 unfolding directoryRows directoryBad tileCount entryPlace
@@ -130,19 +133,47 @@ attached sc h some =
           };
     }
 
--- ---- what may be read of the lent file bs where it is accepted
+-- ---- what may be read of the lent file bs where it is accepted, under whichever release
 
-module _ (bs : List ℕ) (a : verdict (scanOf bs) ≡ Accepted) where
+-- the release aside, which only the chunks depend on
+pub record TiledFile (bs : List ℕ) : Type 0 where
+  pub long : 112 ≤ length bs
+  pub small : length bs ≤ 2 ^ 40
+  pub count : directoryPosition bs + 36 ≤ length bs
+  pub entries : entryPlace bs 0 ≤ length bs
+  pub few : tileCount bs ≤ 4096
+  pub listed : (k : ℕ) → k < tileCount bs → Listed bs (entryPlace bs k)
+
+pub tiled-file : (bs : List ℕ) → AcceptedFile bs → TiledFile bs
+tiled-file bs a =
+    let t = tiled (scanOf bs (a .release)) (a .accepted) in
+    record {
+      long = t .long;
+      small = t .small;
+      count = t .count;
+      entries = t .entries;
+      few = t .few;
+      listed = λ k l. t .tile k l .filled .agreed .placed .listed;
+    }
+
+-- by the release, and by the answer v
+pub accepted-file : (bs : List ℕ) (r : Release) (v : Verdict) → VerdictAnswered (verdict (scanOf bs r)) v → v ≡ Accepted → AcceptedFile bs
+accepted-file bs r v a h = record { release = r; accepted = sym (a .answer-is) ∙ h }
+
+pub accepted-under : (bs : List ℕ) (r : Release) → verdict (scanOf bs r) ≡ Accepted → AcceptedFile bs
+accepted-under bs r h = record { release = r; accepted = h }
+
+module _ (bs : List ℕ) (a : AcceptedFile bs) where
   pub accepted-long : 112 ≤ length bs
-  accepted-long = tiled (scanOf bs) a .long
+  accepted-long = tiled-file bs a .long
 
   pub accepted-entries : entryPlace bs 0 ≤ length bs
-  accepted-entries = tiled (scanOf bs) a .entries
+  accepted-entries = tiled-file bs a .entries
 
   -- EntryCount of the directory at d
   pub accepted-count : (d : ℕ) → d ≡ directoryPosition bs → d + 36 ≤ length bs
-  accepted-count d e = rw e (tiled (scanOf bs) a .count)
+  accepted-count d e = rw e (tiled-file bs a .count)
 
   -- EntryCount of the attachment directory at t
   pub accepted-attachments : (t : ℕ) → t ≡ attachmentDirectoryPosition bs → (t ≡ 0 → ⊥) → t + 36 ≤ length bs
-  accepted-attachments t e some = rw e (attached (scanOf bs) a (λ z. some (e ∙ z)) .count)
+  accepted-attachments t e some = rw e (attached (scanOf bs (a .release)) (a .accepted) (λ z. some (e ∙ z)) .count)

@@ -6,14 +6,12 @@ use mathlib.Core.Path.{_≡_}
 use mathlib.Core.List.{List}
 use mathlib.Core.Bool.{false}
 use lib.ListN.{length}
-use Rattle.format.specs.Scan.{scanOf}
 use Rattle.format.specs.Entry.{nextEntry, dimensionsBad}
 use Rattle.format.specs.Directory.{tileCount, entryPlace}
-use Rattle.format.specs.Rules.{verdict}
-use Rattle.format.specs.declared.Verdict.the-variants.{Accepted}
+use Rattle.format.specs.Rules.{AcceptedFile}
 use Rattle.subblocks.specs.Judged.{Listed}
 use Rattle.subblocks.proofs.PartLaws.{listed-in}
-use Rattle.judge.proofs.AcceptedFile.{tiled}
+use Rattle.judge.proofs.AcceptedFile.{tiled-file}
 
 pub record AtEntry (bs : List ℕ) (n e k : ℕ) : Type 0 where
   pub count : k ≤ n
@@ -30,9 +28,9 @@ module _ (bs : List ℕ) (n e k : ℕ) (w : AtEntry bs n e k) where
   pub at-end : n ≤ k → e ≡ entryPlace bs n
   at-end h = let f : k ≡ n = omega (arith, w .count) in rw f at (w .place)
 
-  module _ (a : verdict (scanOf bs) ≡ Accepted) (m : n ≤ tileCount bs) (l : k < n) where
+  module _ (a : AcceptedFile bs) (m : n ≤ tileCount bs) (l : k < n) where
     at-listed : Listed bs e
-    at-listed = rw (w .place) (tiled (scanOf bs) a .tile k (omega arith) .filled .agreed .placed .listed)
+    at-listed = rw (w .place) (tiled-file bs a .listed k (omega arith))
 
     -- what may be read of the entry
     pub at-fixed : e + 32 ≤ length bs

@@ -1,4 +1,5 @@
 // Judges a whole file: the refusals 1 to 18 in the paper's order.
+use format::Release;
 use format::Verdict;
 ghost use mathlib.Core.Path.{_≡_};
 ghost use mathlib.Core.List.{_++_};
@@ -9,9 +10,8 @@ ghost use Rattle.format.specs.Checks.{first};
 ghost use Rattle.format.specs.File.{namesNone, namesNoneBut0, fileRows};
 ghost use Rattle.format.specs.Directory.{tileCount};
 ghost use Rattle.format.specs.Attachments.{attachmentCount};
-ghost use Rattle.format.specs.Rules.{verdict};
+ghost use Rattle.format.specs.Rules.{verdict, AcceptedFile};
 ghost use Rattle.format.specs.Answers.{VerdictAnswered};
-ghost use Rattle.format.specs.declared.Verdict.the-variants.{Accepted};
 ghost use Rattle.segments.specs.Walk.{WalkTable};
 ghost use Rattle.judge.specs.Located.{annexRows, namedRows, Located};
 
@@ -117,12 +117,12 @@ fn judge_annexes(s: &[u8], table: &[u64; 8192], count: usize) -> Verdict
 }
 
 // What the file segment names.
-fn judge_named(s: &[u8], table: &[u64; 8192], count: usize) -> Verdict
+fn judge_named(s: &[u8], release: Release, table: &[u64; 8192], count: usize) -> Verdict
     requires { ⌜ WalkTable (now s) (now table) count ⌝ }
     requires { ⌜ (112 ≤ length (now s)) × Located (now s) ⌝ }
-    ensures { λ r. ⌜ r ≡ first (namedRows (scanOf (now (s .entry)))) ⌝ }
+    ensures { λ r. ⌜ r ≡ first (namedRows (scanOf (now (s .entry)) release)) ⌝ }
 {
-    let v = directory::judge_directory(s, table, count);
+    let v = directory::judge_directory(s, release, table, count);
     match v {
         Verdict::Refused { number, place } => Verdict::Refused { number, place },
         Verdict::Accepted => judge_annexes(s, table, count),
@@ -130,21 +130,21 @@ fn judge_named(s: &[u8], table: &[u64; 8192], count: usize) -> Verdict
 }
 
 // The file segment and what it names.
-fn judge_walked(s: &[u8], table: &[u64; 8192], count: usize) -> Verdict
+fn judge_walked(s: &[u8], release: Release, table: &[u64; 8192], count: usize) -> Verdict
     requires { ⌜ WalkTable (now s) (now table) count ⌝ }
     requires { ⌜ 112 ≤ length (now s) ⌝ }
-    ensures { λ r. ⌜ r ≡ first (fileRows (now (s .entry)) ++ namedRows (scanOf (now (s .entry)))) ⌝ }
+    ensures { λ r. ⌜ r ≡ first (fileRows (now (s .entry)) ++ namedRows (scanOf (now (s .entry)) release)) ⌝ }
 {
     let v = judge_file(s, table, count);
     match v {
         Verdict::Refused { number, place } => Verdict::Refused { number, place },
-        Verdict::Accepted => judge_named(s, table, count),
+        Verdict::Accepted => judge_named(s, release, table, count),
     }
 }
 
-// The verdict on any bytes.
-pub fn judge(s: &[u8]) -> Verdict
-    ensures { λ r. ⌜ VerdictAnswered (verdict (scanOf (now (s .entry)))) r ⌝ }
+// The verdict on any bytes under a release.
+pub fn judge(s: &[u8], release: Release) -> Verdict
+    ensures { λ r. ⌜ VerdictAnswered (verdict (scanOf (now (s .entry)) release)) r ⌝ }
 {
     let mut table = [0u64; 8192];
     let w = segments::walk(s, &mut table);
@@ -153,16 +153,16 @@ pub fn judge(s: &[u8]) -> Verdict
         Verdict::Refused { number, place } => Verdict::Refused { number, place },
         Verdict::Accepted => {
             let count = w.count as usize;
-            judge_walked(s, &table, count)
+            judge_walked(s, release, &table, count)
         }
     }
 }
 
-// ---- how much an accepted file has
+// ---- how much a file has that is accepted, under whichever release
 
 // How many tiles there are: the entries of the sub-block directory.
 pub fn tile_count(s: &[u8]) -> u64
-    requires { ⌜ verdict (scanOf (now s)) ≡ Accepted ⌝ }
+    requires { ⌜ AcceptedFile (now s) ⌝ }
     ensures { λ r. ⌜ r ≡ tileCount (now (s .entry)) ⌝ }
 {
     directory::entry_count(s, segments::file::directory_position(s))
@@ -170,7 +170,7 @@ pub fn tile_count(s: &[u8]) -> u64
 
 // How many attachments there are: none without an attachment directory.
 pub fn attachment_count(s: &[u8]) -> u64
-    requires { ⌜ verdict (scanOf (now s)) ≡ Accepted ⌝ }
+    requires { ⌜ AcceptedFile (now s) ⌝ }
     ensures { λ r. ⌜ r ≡ attachmentCount (now (s .entry)) ⌝ }
 {
     let t = segments::file::attachment_directory_position(s);

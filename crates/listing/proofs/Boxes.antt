@@ -7,15 +7,13 @@ use mathlib.Core.Logic.{⊎-elim}
 use native.Mathlib.Omega.{arith}
 use native.Mathlib.Numerals.{add-one}
 use native.Mathlib.Nat.{eq-or-lt-of-le, le-of-suc-le-suc}
-use Rattle.format.specs.Scan.{scanOf}
 use Rattle.format.specs.Bytes.{anyBelow, leastBelow, biased}
 use Rattle.format.specs.Entry.{nextEntry, letterPlace, isPyramid}
 use Rattle.format.specs.Directory.{tileCount, entryPlace}
-use Rattle.format.specs.Rules.{verdict}
-use Rattle.format.specs.declared.Verdict.the-variants.{Accepted}
+use Rattle.format.specs.Rules.{AcceptedFile}
 use Rattle.format.proofs.Below.{least-is}
 use Rattle.entries.proofs.EntryLaws.{Planed, dimensions-ok}
-use Rattle.judge.proofs.AcceptedFile.{tiled}
+use Rattle.judge.proofs.AcceptedFile.{tiled-file}
 use Rattle.judge.proofs.EntryLoop.{AtEntry, at-start, at-next}
 use Rattle.listing.specs.Summary.{plain, leastOf, greatestOf, nearEdge, farEdge}
 use Rattle.listing.specs.Figures.{cornersBelow, withTile, Held}
@@ -69,7 +67,7 @@ least-near bs n pick place h =
     let k = leastBelow n pick in
     omega (arith, least-at n k pick (λ k. nearEdge bs (place k)) (l .below) (l .holds), near-fits bs (place k))
 
-pub corners-held : (bs : List ℕ) → verdict (scanOf bs) ≡ Accepted → Held (cornersBelow bs (tileCount bs))
+pub corners-held : (bs : List ℕ) → AcceptedFile bs → Held (cornersBelow bs (tileCount bs))
 unfolding cornersBelow farEdge
 corners-held bs h =
     let n = tileCount bs in
@@ -81,7 +79,7 @@ corners-held bs h =
     }
   where
     planed : (k : ℕ) → k < tileCount bs → Planed bs (entryPlace bs k)
-    planed k l = dimensions-ok bs (entryPlace bs k) (tiled (scanOf bs) h .tile k l .filled .agreed .placed .listed .dimensions)
+    planed k l = dimensions-ok bs (entryPlace bs k) (tiled-file bs h .listed k l .dimensions)
 
 -- ---- the loop over the tiles: those below k are in the box c, and the next entry is at e
 

@@ -5,7 +5,8 @@ use mathlib.Core.List.{List, []}
 use lib.ListN.{length}
 use borrow.Author.Tests.{lt-ltb, le-ltb}
 use Rattle.format.specs.Scan.{scanOf}
-use Rattle.format.specs.Rules.{verdict}
+use Rattle.format.specs.Rules.{verdict, AcceptedFile}
+use Rattle.format.specs.declared.Release.{Release}
 use Rattle.format.specs.declared.Verdict.{Verdict}
 use Rattle.format.specs.declared.Verdict.the-variants.{Accepted, Refused}
 use Rattle.text.specs.Text.{signedDecimal, textOf, Clean, Appended}
@@ -28,7 +29,7 @@ text-by : (bs : List ℕ) → textBy (figuresOf bs) ≡ figuresText bs
 unfolding textBy figuresOf cornersBelow figuresText left top right bottom
 text-by bs = refl
 
-pub figures-held : (bs : List ℕ) (f : Figures) → f ≡ figuresOf bs → verdict (scanOf bs) ≡ Accepted → Held (f .corners)
+pub figures-held : (bs : List ℕ) (f : Figures) → f ≡ figuresOf bs → AcceptedFile bs → Held (f .corners)
 unfolding figuresOf
 figures-held bs f e h = rw e (corners-held bs h)
 
@@ -42,19 +43,19 @@ signed-room t r b a h = appended-room t r (signedDecimal b) 11 a (signed-most b 
 pub says : (t r : Text) (x : List ℕ) → textOf t ≡ [] → Appended t x r → Says r x
 says t r x e a = record { clean = a .clean; text = appended-whole t r x e a }
 
--- ---- the listing
+-- ---- the listing, under the release rel
 
-module _ (bs : List ℕ) (t : Text) where
-  pub listing-long : 65536 < length bs → Says t (refusalText 30 0) → Clean t × (textOf t ≡ listingOf bs)
+module _ (bs : List ℕ) (rel : Release) (t : Text) where
+  pub listing-long : 65536 < length bs → Says t (refusalText 30 0) → Clean t × (textOf t ≡ listingOf bs rel)
   unfolding listingOf
   listing-long h s = (s .clean, s .text ∙ rw (lt-ltb 65536 (length bs) h))
 
-  pub listing-refused : (v : Verdict) (n p : ℕ) → v ≡ verdict (scanOf bs) → v ≡ Refused n p → Says t (refusalText n p) → length bs ≤ 65536
-      → Clean t × (textOf t ≡ listingOf bs)
+  pub listing-refused : (v : Verdict) (n p : ℕ) → v ≡ verdict (scanOf bs rel) → v ≡ Refused n p → Says t (refusalText n p) → length bs ≤ 65536
+      → Clean t × (textOf t ≡ listingOf bs rel)
   unfolding listingOf
   listing-refused v n p j e s h = (s .clean, s .text ∙ rw (le-ltb 65536 (length bs) h, ← j, e))
 
-  pub listing-accepted : (f : Figures) → length bs ≤ 65536 → verdict (scanOf bs) ≡ Accepted → f ≡ figuresOf bs → Says t (textBy f)
-      → Clean t × (textOf t ≡ listingOf bs)
+  pub listing-accepted : (f : Figures) → length bs ≤ 65536 → verdict (scanOf bs rel) ≡ Accepted → f ≡ figuresOf bs → Says t (textBy f)
+      → Clean t × (textOf t ≡ listingOf bs rel)
   unfolding listingOf
   listing-accepted f h a e s = (s .clean, s .text ∙ rw (le-ltb 65536 (length bs) h, a, e) (text-by bs))

@@ -10,6 +10,7 @@ use Rattle.format.specs.Segments.{walked}
 use Rattle.format.specs.Directory.{tileCount}
 use Rattle.format.specs.Attachments.{attachmentCount}
 use Rattle.format.specs.Rules.{verdict}
+use Rattle.format.specs.declared.Release.{Release}
 use Rattle.format.specs.declared.Verdict.{Verdict}
 use Rattle.format.specs.declared.Verdict.the-variants.{Accepted, Refused}
 use Rattle.text.specs.Text.{decimal, signedDecimal}
@@ -74,12 +75,12 @@ figuresText bs =
 unfoldable pub refusalText : ℕ → ℕ → List ℕ
 refusalText n p = line nameRefused (decimal n) ++ line namePlace (decimal p)
 
--- ---- the listing
+-- ---- the listing, under a release
 
 abbrev pub textIf : Verdict → List ℕ → List ℕ
 textIf Accepted x = x
 textIf (Refused n p) x = refusalText n p
 
 -- refusal 30, input over 65,536 bytes, goes before all
-unfoldable pub listingOf : List ℕ → List ℕ
-listingOf bs = cond (ltb 65536 (length bs)) (refusalText 30 0) (textIf (verdict (scanOf bs)) (figuresText bs))
+unfoldable pub listingOf : List ℕ → Release → List ℕ
+listingOf bs r = cond (ltb 65536 (length bs)) (refusalText 30 0) (textIf (verdict (scanOf bs r)) (figuresText bs))

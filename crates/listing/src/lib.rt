@@ -1,4 +1,5 @@
 // Lists a file: the figures of an accepted one, the refusal of any other, as a summary and as text.
+use format::Release;
 use format::Verdict;
 use text::Text;
 ghost use mathlib.Core.Path.{_≡_};
@@ -11,8 +12,7 @@ ghost use Rattle.format.specs.Bytes.{signed32, biased};
 ghost use Rattle.format.specs.Segments.{walked};
 ghost use Rattle.format.specs.Entry.{nextEntry, letterPlace, dimensionsBad};
 ghost use Rattle.format.specs.Directory.{tileCount};
-ghost use Rattle.format.specs.Rules.{verdict};
-ghost use Rattle.format.specs.declared.Verdict.the-variants.{Accepted};
+ghost use Rattle.format.specs.Rules.{verdict, AcceptedFile};
 ghost use Rattle.text.specs.Text.{decimal, signedDecimal, textOf, Clean, Appended};
 ghost use Rattle.listing.specs.Summary.{nearEdge, farEdge, summaryOf, SummaryAnswered};
 ghost use Rattle.listing.specs.Listing.{nameBox, line, refusalText, listingOf};
@@ -125,7 +125,7 @@ fn with_tile(c: Corners, s: &[u8], e: u64) -> Corners
 
 // The box over the first n entries.
 fn corners_of(s: &[u8], n: u64) -> Corners
-    requires { ⌜ (verdict (scanOf (now s)) ≡ Accepted) × (n ≤ tileCount (now s)) ⌝ }
+    requires { ⌜ AcceptedFile (now s) × (n ≤ tileCount (now s)) ⌝ }
     ensures { λ r. ⌜ r ≡ cornersBelow (now (s .entry)) n ⌝ }
 {
     let mut c = Corners {
@@ -149,7 +149,7 @@ fn corners_of(s: &[u8], n: u64) -> Corners
 
 // How many segments there are.
 fn segment_count(s: &[u8]) -> u64
-    requires { ⌜ verdict (scanOf (now s)) ≡ Accepted ⌝ }
+    requires { ⌜ AcceptedFile (now s) ⌝ }
     ensures { λ r. ⌜ r ≡ length (walked (now (s .entry))) ⌝ }
 {
     let w = segments::judge_segments(s);
@@ -158,7 +158,7 @@ fn segment_count(s: &[u8]) -> u64
 
 // The figures of an accepted file.
 fn figures_of(s: &[u8]) -> Figures
-    requires { ⌜ verdict (scanOf (now s)) ≡ Accepted ⌝ }
+    requires { ⌜ AcceptedFile (now s) ⌝ }
     ensures { λ r. ⌜ r ≡ figuresOf (now (s .entry)) ⌝ }
 {
     let bytes = s.len() as u64;
@@ -217,11 +217,11 @@ fn summary_of(f: Figures) -> Summary
     }
 }
 
-// The summary of a file of any size, or its refusal.
-pub fn summarize(s: &[u8]) -> SummaryAnswer
-    ensures { λ r. ⌜ SummaryAnswered (verdict (scanOf (now (s .entry)))) (summaryOf (now (s .entry))) r ⌝ }
+// The summary of a file of any size, or its refusal, under a release.
+pub fn summarize(s: &[u8], release: Release) -> SummaryAnswer
+    ensures { λ r. ⌜ SummaryAnswered (verdict (scanOf (now (s .entry)) release)) (summaryOf (now (s .entry))) r ⌝ }
 {
-    let v = judge::judge(s);
+    let v = judge::judge(s, release);
     match v {
         Verdict::Refused { number, place } => SummaryAnswer::Refused { number, place },
         Verdict::Accepted => SummaryAnswer::Found(summary_of(figures_of(s))),
@@ -313,14 +313,14 @@ fn refusal_text(number: u64, place: u64) -> Text
     put_line(refused, b"place=", place)
 }
 
-// The listing of a file of at most 65,536 bytes; what is longer is refused before all.
-pub fn list(s: &[u8]) -> Text
-    ensures { λ r. ⌜ Clean r × (textOf r ≡ listingOf (now (s .entry))) ⌝ }
+// The listing of a file of at most 65,536 bytes, under a release; what is longer is refused before all.
+pub fn list(s: &[u8], release: Release) -> Text
+    ensures { λ r. ⌜ Clean r × (textOf r ≡ listingOf (now (s .entry)) release) ⌝ }
 {
     if 65536 < s.len() {
         return refusal_text(30, 0);
     }
-    let v = judge::judge(s);
+    let v = judge::judge(s, release);
     match v {
         Verdict::Refused { number, place } => refusal_text(number, place),
         Verdict::Accepted => figures_text(figures_of(s)),

@@ -11,10 +11,11 @@ use Rattle.format.specs.Scan.{Scan, scanOf, blockFile}
 use Rattle.format.specs.Checks.{Check, row, first}
 use Rattle.format.specs.File.{metadataPosition, attachmentDirectoryPosition}
 use Rattle.format.specs.Entry.{dimensionCount, dimensionPlace, filePosition}
-use Rattle.format.specs.Directory.{tileCount}
+use Rattle.format.specs.Directory.{tileCount, entryPlace}
 use Rattle.format.specs.Attachments.{xmlSize, xmlAttachmentSize, attachmentCount, attachmentEntryCount, attachmentEntry, attachmentPosition, attachmentDataSize}
-use Rattle.format.specs.Rules.{checks, verdict, tileVerdict, attachmentVerdict}
+use Rattle.format.specs.Rules.{checks, verdict, AcceptedFile, tileVerdict, attachmentVerdict}
 use Rattle.format.specs.Records.{tileEntry, tileFile, tilePosition, dimensionVerdict, span, xmlSpan, xmlAttachmentSpan}
+use Rattle.format.specs.declared.Release.{Release}
 use Rattle.format.specs.declared.Span.{Span}
 use Rattle.format.specs.declared.Verdict.{Verdict}
 use Rattle.format.specs.declared.Verdict.the-variants.{Accepted, Refused}
@@ -25,7 +26,7 @@ use Rattle.directory.proofs.Stages.{then-stop, then-next}
 use Rattle.subblocks.specs.Judged.{Filled, Judged}
 use Rattle.subblocks.proofs.PartLaws.{listed-in}
 use Rattle.entries.proofs.EntryLaws.{dimension-within}
-use Rattle.judge.proofs.AcceptedFile.{tiled, described, Attached, attached}
+use Rattle.judge.proofs.AcceptedFile.{tiled, described, Attached, attached, tiled-file, accepted-under}
 
 -- ---- a row 24 behind other rows, of which v was answered
 
@@ -52,7 +53,7 @@ asked-both rows none h =
 pub record TileThere (sc : Scan) (n : ℕ) : Type 0 where
   pub accepted : verdict sc ≡ Accepted
   pub below : n < tileCount (sc .file)
-  pub judged : Judged (sc .file) (tileEntry sc n) (tileFile sc n) (tilePosition sc n)
+  pub judged : Judged (sc .file) (tileEntry sc n) (tileFile sc n) (tilePosition sc n) (sc .release)
 
 pub tile-there : (sc : Scan) (n : ℕ) → tileVerdict sc n ≡ Accepted → TileThere sc n
 unfolding verdict tileVerdict
@@ -61,25 +62,25 @@ tile-there sc n h =
     let below = leb-false (tileCount (sc .file)) n (both .1) in
     record { accepted = both .0; below = below; judged = tiled sc (both .0) .tile n below }
 
--- what may be read of the lent file bs
-module _ (bs : List ℕ) (n : ℕ) (h : tileVerdict (scanOf bs) n ≡ Accepted) where
-  pub tile-accepted : verdict (scanOf bs) ≡ Accepted
-  tile-accepted = tile-there (scanOf bs) n h .accepted
+-- of the lent file bs, by the answer v under the release r
+module _ (bs : List ℕ) (r : Release) (n : ℕ) {v : Verdict} (a : VerdictAnswered (tileVerdict (scanOf bs r) n) v) (h : v ≡ Accepted) where
+  pub tile-file : AcceptedFile bs
+  tile-file = accepted-under bs r (tile-there (scanOf bs r) n (accepted a h) .accepted)
 
-  pub tile-below : n ≤ tileCount bs
-  tile-below = omega (arith, tile-there (scanOf bs) n h .below)
+  pub tile-below : n < tileCount bs
+  tile-below = tile-there (scanOf bs r) n (accepted a h) .below
 
-  -- of the entry at e
-  pub tile-fixed : (e : ℕ) → e ≡ tileEntry (scanOf bs) n → e + 32 ≤ length bs
-  tile-fixed e i = rw i (listed-in _ _ (tile-there (scanOf bs) n h .judged .filled .agreed .placed .listed))
+-- what may be read of its entry, at e
+pub tile-fixed : (bs : List ℕ) → AcceptedFile bs → (n : ℕ) → n < tileCount bs → (e : ℕ) → e ≡ entryPlace bs n → e + 32 ≤ length bs
+tile-fixed bs a n l e i = rw i (listed-in _ _ (tiled-file bs a .listed n l))
 
 -- the sub-block at q of the entry at e of tile n of the lent file bs
-module _ (bs : List ℕ) (n e q : ℕ) {v : Verdict} (a : VerdictAnswered (tileVerdict (scanOf bs) n) v) (h : v ≡ Accepted)
-    (i : e ≡ tileEntry (scanOf bs) n) (j : q ≡ filePosition bs e) where
-  pub judged-at : Judged bs e (blockFile (scanOf bs) e) q
-  judged-at = rw (j, i) (tile-there (scanOf bs) n (accepted a h) .judged)
+module _ (bs : List ℕ) (r : Release) (n e q : ℕ) {v : Verdict} (a : VerdictAnswered (tileVerdict (scanOf bs r) n) v) (h : v ≡ Accepted)
+    (i : e ≡ tileEntry (scanOf bs r) n) (j : q ≡ filePosition bs e) where
+  pub judged-at : Judged bs e (blockFile (scanOf bs r) e) q r
+  judged-at = rw (j, i) (tile-there (scanOf bs r) n (accepted a h) .judged)
 
-  pub filled-at : Filled bs e (blockFile (scanOf bs) e) q
+  pub filled-at : Filled bs e (blockFile (scanOf bs r) e) q
   filled-at = judged-at .filled
 
 -- ---- dimensions of a tile
@@ -90,7 +91,7 @@ unfolding dimensionVerdict
 dimension-asked sc n k = rw append-assoc
 
 pub record DimensionThere (sc : Scan) (n k : ℕ) : Type 0 where
-  pub tile : tileVerdict sc n ≡ Accepted
+  pub tile : TileThere sc n
   pub small : length (sc .file) ≤ 2 ^ 40
   pub within : dimensionPlace (tileEntry sc n) k + 20 ≤ length (sc .file)
 
@@ -103,23 +104,29 @@ dimension-there sc n k h =
     let t = tile-there sc n (both .0) in
     let l = t .judged .filled .agreed .placed .listed in
     record {
-      tile = both .0;
+      tile = t;
       small = tiled sc (t .accepted) .small;
       within = omega (arith, l .entry, dimension-within (sc .file) e k (leb-false (dimensionCount (sc .file) e) k (both .1)));
     }
 
--- what may be read of the lent file bs
-module _ (bs : List ℕ) (n k : ℕ) (h : dimensionVerdict (scanOf bs) n k ≡ Accepted) where
-  pub dimension-tile : tileVerdict (scanOf bs) n ≡ Accepted
-  dimension-tile = dimension-there (scanOf bs) n k h .tile
+-- of the lent file bs, by the answer v under the release r
+module _ (bs : List ℕ) (r : Release) (n k : ℕ) {v : Verdict} (a : VerdictAnswered (dimensionVerdict (scanOf bs r) n k) v) (h : v ≡ Accepted) where
+  there : DimensionThere (scanOf bs r) n k
+  there = dimension-there (scanOf bs r) n k (accepted a h)
 
-  -- of dimension k of the entry at e
-  module _ (e : ℕ) (i : e ≡ tileEntry (scanOf bs) n) where
+  pub dimension-file : AcceptedFile bs
+  dimension-file = accepted-under bs r (there .tile .accepted)
+
+  pub dimension-below : n < tileCount bs
+  dimension-below = there .tile .below
+
+  -- what may be read of dimension k of the entry at e
+  module _ (e : ℕ) (i : e ≡ entryPlace bs n) where
     pub dimension-small : dimensionPlace e k < 2 ^ 64
-    dimension-small = let t = dimension-there (scanOf bs) n k h in rw i (omega (arith, t .small, t .within))
+    dimension-small = rw i (omega (arith, there .small, there .within))
 
     pub dimension-in : (d : ℕ) → d ≡ dimensionPlace e k → d + 20 ≤ length bs
-    dimension-in d j = rw (j, i) (dimension-there (scanOf bs) n k h .within)
+    dimension-in d j = rw (j, i) (there .within)
 
 -- ---- attachments
 
@@ -131,12 +138,6 @@ attachments-some t n k h = ((λ e. let l = rw (eq-eqb t 0 e) at h in absurd (ome
     go true l = absurd (omega arith)
     go false l = l
 
--- the attachment at q, whose entry is at e
-pub record AttachmentThere (sc : Scan) (e q : ℕ) : Type 0 where
-  pub long : 112 ≤ length (sc .file)
-  pub small : length (sc .file) ≤ 2 ^ 40
-  pub attached : Attached sc e q
-
 -- the entry and the place of attachment n
 abbrev pub annexEntry : List ℕ → ℕ → ℕ
 annexEntry bs n = attachmentEntry (attachmentDirectoryPosition bs) n
@@ -144,41 +145,50 @@ annexEntry bs n = attachmentEntry (attachmentDirectoryPosition bs) n
 abbrev pub annexPosition : List ℕ → ℕ → ℕ
 annexPosition bs n = attachmentPosition bs (annexEntry bs n)
 
-attachment-there : (sc : Scan) (n : ℕ) → attachmentVerdict sc n ≡ Accepted → AttachmentThere sc (annexEntry (sc .file) n) (annexPosition (sc .file) n)
-unfolding verdict attachmentVerdict attachmentCount
-attachment-there sc n h =
-    let both = asked-both (checks sc) (leb (attachmentCount (sc .file)) n) h in
-    let file = tiled sc (both .0) in
-    let t = attachmentDirectoryPosition (sc .file) in
-    let s = attachments-some t (attachmentEntryCount (sc .file) t) n (leb-false (attachmentCount (sc .file)) n (both .1)) in
-    record { long = file .long; small = file .small; attached = attached sc (both .0) (s .0) .attachment n (s .1) }
+-- of the lent file bs, accepted under the release r
+pub annex-there : (bs : List ℕ) (r : Release) (n : ℕ) → attachmentVerdict (scanOf bs r) n ≡ Accepted → AcceptedFile bs × (n < attachmentCount bs)
+unfolding verdict attachmentVerdict
+annex-there bs r n h =
+    let both = asked-both (checks (scanOf bs r)) (leb (attachmentCount bs) n) h in
+    (accepted-under bs r (both .0), leb-false (attachmentCount bs) n (both .1))
 
--- what may be read of the lent file bs
-module _ (bs : List ℕ) (n : ℕ) (h : attachmentVerdict (scanOf bs) n ≡ Accepted) where
-  pub attachment-long : 112 ≤ length bs
-  attachment-long = attachment-there (scanOf bs) n h .long
+-- by the answer v
+module _ (bs : List ℕ) (r : Release) (n : ℕ) {v : Verdict} (a : VerdictAnswered (attachmentVerdict (scanOf bs r) n) v) (h : v ≡ Accepted) where
+  pub annex-file : AcceptedFile bs
+  annex-file = annex-there bs r n (accepted a h) .0
+
+  pub annex-below : n < attachmentCount bs
+  annex-below = annex-there bs r n (accepted a h) .1
+
+-- what may be read of it
+module _ (bs : List ℕ) (a : AcceptedFile bs) (n : ℕ) (l : n < attachmentCount bs) where
+  annexed : Attached (scanOf bs (a .release)) (annexEntry bs n) (annexPosition bs n)
+  unfolding attachmentCount
+  annexed =
+      let t = attachmentDirectoryPosition bs in
+      let s = attachments-some t (attachmentEntryCount bs t) n l in
+      attached (scanOf bs (a .release)) (a .accepted) (s .0) .attachment n (s .1)
 
   -- of the entry, where the attachment directory is at t
-  module _ (t : ℕ) (i : t ≡ attachmentDirectoryPosition bs) where
-    pub annex-small : attachmentEntry t n < 2 ^ 64
-    annex-small = let a = attachment-there (scanOf bs) n h in rw i (omega (arith, a .small, a .attached .entry))
-
-    pub annex-is : (e : ℕ) → e ≡ attachmentEntry t n → e ≡ annexEntry bs n
-    annex-is e j = j ∙ rw i
+  pub annex-small : (t : ℕ) → t ≡ attachmentDirectoryPosition bs → attachmentEntry t n < 2 ^ 64
+  annex-small t i = rw i (omega (arith, tiled-file bs a .small, annexed .entry))
 
   pub annex-in : (e : ℕ) → e ≡ annexEntry bs n → e + 128 ≤ length bs
-  annex-in e j = rw j (attachment-there (scanOf bs) n h .attached .entry)
+  annex-in e j = rw j (annexed .entry)
 
   -- of the attachment at q
   pub data-in : (q : ℕ) → q ≡ annexPosition bs n → q + 288 + attachmentDataSize bs q ≤ length bs
-  data-in q i = let a = attachment-there (scanOf bs) n h .attached in rw i (omega (arith, a .room-in, a .fits))
+  data-in q i = rw i (omega (arith, annexed .room-in, annexed .fits))
+
+pub annex-is : (bs : List ℕ) (n t e : ℕ) → t ≡ attachmentDirectoryPosition bs → e ≡ attachmentEntry t n → e ≡ annexEntry bs n
+annex-is bs n t e i j = j ∙ rw i
 
 -- ---- the metadata segment
 
 -- what may be read of the lent file bs where the metadata segment is at m
-pub xml-in : (bs : List ℕ) → verdict (scanOf bs) ≡ Accepted → (m : ℕ) → m ≡ metadataPosition bs → (m ≡ 0 → ⊥)
+pub xml-in : (bs : List ℕ) → AcceptedFile bs → (m : ℕ) → m ≡ metadataPosition bs → (m ≡ 0 → ⊥)
     → m + 288 + xmlSize bs m + xmlAttachmentSize bs m ≤ length bs
-xml-in bs a m i some = let d = described (scanOf bs) a (λ z. some (i ∙ z)) in rw i (omega (arith, d .room-in, d .fits))
+xml-in bs a m i some = let d = described (scanOf bs (a .release)) (a .accepted) (λ z. some (i ∙ z)) in rw i (omega (arith, d .room-in, d .fits))
 
 -- the XML's stretch x where there is a metadata segment, at m, and what lies behind it
 module _ (bs : List ℕ) (m : ℕ) (i : m ≡ metadataPosition bs) (some : m ≡ 0 → ⊥) (x : Span) (f : x ≡ xmlSpan bs (metadataPosition bs)) where
@@ -186,7 +196,7 @@ module _ (bs : List ℕ) (m : ℕ) (i : m ≡ metadataPosition bs) (some : m ≡
   unfolding xmlSpan
   xml-is = f ∙ rw (← i, ne-eqb m 0 some)
 
-  pub behind-in : verdict (scanOf bs) ≡ Accepted → x .start + x .length + xmlAttachmentSize bs m ≤ length bs
+  pub behind-in : AcceptedFile bs → x .start + x .length + xmlAttachmentSize bs m ≤ length bs
   behind-in a = rw xml-is (xml-in bs a m i some)
 
   pub behind-is : (n : ℕ) → n ≡ xmlAttachmentSize bs m → span (x .start + x .length) n ≡ xmlAttachmentSpan bs (metadataPosition bs)

@@ -11,6 +11,7 @@ use Rattle.format.specs.Rules.{tileVerdict, attachmentVerdict}
 use Rattle.format.specs.Records.{tileEntry, tileAt, tileRecord, metadataSpan, pixelsSpan, attachmentSpan, tilePixels, tileMetadata, tileAttachment}
 use Rattle.format.specs.Records.{dimensionVerdict, dimensionAt, dimensionRecord, attachmentDataSpan, attachmentAt, attachmentRecord}
 use Rattle.format.specs.Answers.{VerdictAnswered, SpanAnswered, TileAnswered, DimensionAnswered, AttachmentAnswered}
+use Rattle.format.specs.declared.Release.{Release}
 use Rattle.format.specs.declared.Verdict.{Verdict}
 use Rattle.format.specs.declared.Verdict.the-variants.{Accepted, Refused}
 use Rattle.format.specs.declared.Span.{Span}
@@ -24,7 +25,7 @@ use Rattle.format.specs.declared.AttachmentAnswer.{AttachmentAnswer}
 use Rattle.format.specs.declared.AttachmentAnswer.the-variants as AttachmentIs
 use Rattle.format.proofs.Answering.{span-refused, span-found, tile-found, dimension-found}
 use Rattle.format.proofs.Answering.{attachment-found as annex-answered}
-use Rattle.parts.proofs.Numbered.{annexEntry, annexPosition, annex-in}
+use Rattle.parts.proofs.Numbered.{annexEntry, annexPosition, annex-there, annex-in}
 
 module _ (sc : Scan) (n : ℕ) {v : Verdict} (a : VerdictAnswered (tileVerdict sc n) v) where
   module _ {m p : ℕ} (h : v ≡ Refused m p) where
@@ -54,7 +55,8 @@ module _ (sc : Scan) (n : ℕ) {v : Verdict} (a : VerdictAnswered (tileVerdict s
     unfolding tileAttachment
     attachment-found k = span-found a h (rw (← i, ← j) k)
 
-    pub record-found : {r : Tile} → r ≡ tileAt n (sc .file) e (blockFile sc e) q → TileAnswered (tileVerdict sc n) (tileRecord sc n) (TileIs.Found r)
+    pub record-found : {r : Tile} → r ≡ tileAt n (sc .file) e (blockFile sc e) q (sc .release)
+        → TileAnswered (tileVerdict sc n) (tileRecord sc n) (TileIs.Found r)
     unfolding tileRecord
     record-found k = tile-found a h (rw (← i, ← j) k)
 
@@ -78,7 +80,7 @@ found-is {w = Accepted} h e = (refl, cc (h .attachment-is, e))
 found-is {w = Refused m p} h e = let z : _≡_ {A = ℕ} 0 1 = cc in absurd (omega arith)
 
 -- its entry lies in the lent file bs
-pub found-in : (bs : List ℕ) (n : ℕ) {u : Attachment} {a : AttachmentAnswer}
-    → AttachmentAnswered (attachmentVerdict (scanOf bs) n) (attachmentRecord (scanOf bs) n) a → a ≡ AttachmentIs.Found u → u .place + 128 ≤ length bs
+pub found-in : (bs : List ℕ) (r : Release) (n : ℕ) {u : Attachment} {a : AttachmentAnswer}
+    → AttachmentAnswered (attachmentVerdict (scanOf bs r) n) (attachmentRecord (scanOf bs r) n) a → a ≡ AttachmentIs.Found u → u .place + 128 ≤ length bs
 unfolding attachmentRecord attachmentAt
-found-in bs n h e = let f = found-is h e in annex-in bs n (f .0) _ (rw (f .1))
+found-in bs r n h e = let f = found-is h e in let t = annex-there bs r n (f .0) in annex-in bs (t .0) n (t .1) _ (rw (f .1))

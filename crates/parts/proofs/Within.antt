@@ -16,12 +16,14 @@ use Rattle.format.specs.Records.{tileAttachment}
 use Rattle.format.specs.Records.{attachmentDataSpan, attachmentData, xmlSpan, xmlAttachmentSpan, commonXml, commonAttachment}
 use Rattle.format.specs.Answers.{SpanAnswered, spanIn}
 use Rattle.format.specs.Views.{View}
+use Rattle.format.specs.declared.Release.{Release}
 use Rattle.format.specs.declared.Verdict.{Verdict}
 use Rattle.format.specs.declared.Verdict.the-variants.{Accepted, Refused}
 use Rattle.format.specs.declared.Span.{Span}
 use Rattle.format.specs.declared.SpanAnswer.{SpanAnswer}
 use Rattle.subblocks.proofs.PartLaws.{Laid, filled-in}
-use Rattle.parts.proofs.Numbered.{tile-there, annexPosition, data-in, xml-in}
+use Rattle.judge.proofs.AcceptedFile.{accepted-under}
+use Rattle.parts.proofs.Numbered.{tile-there, annexPosition, annex-there, data-in, xml-in}
 
 abbrev pub Within : List ℕ → Span → Type 0
 Within bs s = s .start + s .length ≤ length bs
@@ -55,9 +57,11 @@ module _ (sc : Scan) (n : ℕ) where
   unfolding tileAttachment attachmentSpan
   attachment-within = span-within (tileFile sc n) (tileVerdict sc n) _ (λ h. laid h .attachment)
 
-pub data-within : (bs : List ℕ) (n : ℕ) → Within bs (attachmentData (scanOf bs) n)
+pub data-within : (bs : List ℕ) (r : Release) (n : ℕ) → Within bs (attachmentData (scanOf bs r) n)
 unfolding attachmentData attachmentDataSpan
-data-within bs n = span-within bs (attachmentVerdict (scanOf bs) n) _ (λ h. data-in bs n h (annexPosition bs n) refl)
+data-within bs r n =
+    span-within bs (attachmentVerdict (scanOf bs r) n) _
+    (λ h. let t = annex-there bs r n h in data-in bs (t .0) n (t .1) (annexPosition bs n) refl)
 
 -- a stretch that is empty where m is 0
 some-within : (bs : List ℕ) (m : ℕ) (s : Span) → ((m ≡ 0 → ⊥) → Within bs s) → Within bs (cond (eqb m 0) (span 0 0) s)
@@ -67,15 +71,15 @@ some-within bs m s h = go (eqb m 0) refl
     go true e = omega arith
     go false e = h (eqb-false m 0 e)
 
-module _ (bs : List ℕ) where
-  pub xml-within : Within bs (commonXml (scanOf bs))
+module _ (bs : List ℕ) (r : Release) where
+  pub xml-within : Within bs (commonXml (scanOf bs r))
   unfolding commonXml xmlSpan
   xml-within =
       let m = metadataPosition bs in
-      span-within bs (verdict (scanOf bs)) _ (λ h. some-within bs m _ (λ some. omega (arith, xml-in bs h m refl some)))
+      span-within bs (verdict (scanOf bs r)) _ (λ h. some-within bs m _ (λ some. omega (arith, xml-in bs (accepted-under bs r h) m refl some)))
 
-  pub xml-attachment-within : Within bs (commonAttachment (scanOf bs))
+  pub xml-attachment-within : Within bs (commonAttachment (scanOf bs r))
   unfolding commonAttachment xmlAttachmentSpan
   xml-attachment-within =
       let m = metadataPosition bs in
-      span-within bs (verdict (scanOf bs)) _ (λ h. some-within bs m _ (λ some. xml-in bs h m refl some))
+      span-within bs (verdict (scanOf bs r)) _ (λ h. some-within bs m _ (λ some. xml-in bs (accepted-under bs r h) m refl some))

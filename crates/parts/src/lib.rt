@@ -1,23 +1,24 @@
-// What a user is handed out of a file of any bytes: records and parts of it by number. Each question judges the whole file first.
+// What a user is handed out of a file of any bytes: records and parts of it by number. Each question judges the whole file first, under a release.
 use format::Attachment;
 use format::AttachmentAnswer;
 use format::DimensionAnswer;
+use format::Release;
 use format::Span;
 use format::SpanAnswer;
 use format::TileAnswer;
 use format::Verdict;
 ghost use mathlib.Core.Path.{_≡_};
+ghost use Prim.Native.Nat.{_<_};
 ghost use Rattle.format.specs.Scan.{scanOf};
 ghost use Rattle.format.specs.File.{metadataPosition, attachmentDirectoryPosition};
 ghost use Rattle.format.specs.Entry.{filePosition};
-ghost use Rattle.format.specs.Directory.{entryPlace};
-ghost use Rattle.format.specs.Attachments.{attachmentEntry, attachmentPosition};
-ghost use Rattle.format.specs.Rules.{verdict, tileVerdict, attachmentVerdict};
+ghost use Rattle.format.specs.Directory.{tileCount, entryPlace};
+ghost use Rattle.format.specs.Attachments.{attachmentCount, attachmentEntry, attachmentPosition};
+ghost use Rattle.format.specs.Rules.{verdict, AcceptedFile, tileVerdict, attachmentVerdict};
 ghost use Rattle.format.specs.Records.{span, dimensionVerdict, tileRecord, dimensionRecord, tilePixels, tileMetadata, tileAttachment};
 ghost use Rattle.format.specs.Records.{attachmentRecord, attachmentDataSpan, attachmentData, xmlSpan, xmlAttachmentSpan, commonXml, commonAttachment};
 ghost use Rattle.format.specs.Answers.{VerdictAnswered, SpanAnswered, TileAnswered, DimensionAnswered, AttachmentAnswered, spanIn};
 ghost use Rattle.format.specs.Views.{View};
-ghost use Rattle.format.specs.declared.Verdict.the-variants.{Accepted};
 
 // The empty stretch.
 fn nothing() -> Span
@@ -45,10 +46,10 @@ pub fn span_in(a: SpanAnswer) -> Span
 // ---- tiles: entries of the sub-block directory, counted from 0
 
 // The refusal of the file, or 24 where there is no tile n.
-pub fn tile_refusal(s: &[u8], n: u64) -> Verdict
-    ensures { λ r. ⌜ VerdictAnswered (tileVerdict (scanOf (now (s .entry))) n) r ⌝ }
+pub fn tile_refusal(s: &[u8], release: Release, n: u64) -> Verdict
+    ensures { λ r. ⌜ VerdictAnswered (tileVerdict (scanOf (now (s .entry)) release) n) r ⌝ }
 {
-    let v = judge::judge(s);
+    let v = judge::judge(s, release);
     match v {
         Verdict::Refused { number, place } => Verdict::Refused { number, place },
         Verdict::Accepted => {
@@ -63,9 +64,9 @@ pub fn tile_refusal(s: &[u8], n: u64) -> Verdict
     }
 }
 
-// Where the entry of tile n stands.
+// Where the entry of tile n of an accepted file stands.
 fn entry_place(s: &[u8], n: u64) -> u64
-    requires { ⌜ tileVerdict (scanOf (now s)) n ≡ Accepted ⌝ }
+    requires { ⌜ AcceptedFile (now s) × (n < tileCount (now s)) ⌝ }
     ensures { λ r. ⌜ r ≡ entryPlace (now (s .entry)) n ⌝ }
 {
     let mut e = directory::first_entry(s);
@@ -79,32 +80,32 @@ fn entry_place(s: &[u8], n: u64) -> u64
 
 // Where the sub-block of tile n stands, whose entry is at e.
 fn sub_block_place(s: &[u8], n: u64, e: u64) -> u64
-    requires { ⌜ (tileVerdict (scanOf (now s)) n ≡ Accepted) × (e ≡ entryPlace (now s) n) ⌝ }
+    requires { ⌜ AcceptedFile (now s) × (n < tileCount (now s)) × (e ≡ entryPlace (now s) n) ⌝ }
     ensures { λ r. ⌜ r ≡ filePosition (now (s .entry)) e ⌝ }
 {
     entries::file_position(s, e)
 }
 
 // The tile record of number n.
-pub fn tile(s: &[u8], n: u64) -> TileAnswer
-    ensures { λ r. ⌜ TileAnswered (tileVerdict (scanOf (now (s .entry))) n) (tileRecord (scanOf (now (s .entry))) n) r ⌝ }
+pub fn tile(s: &[u8], release: Release, n: u64) -> TileAnswer
+    ensures { λ r. ⌜ TileAnswered (tileVerdict (scanOf (now (s .entry)) release) n) (tileRecord (scanOf (now (s .entry)) release) n) r ⌝ }
 {
-    let v = tile_refusal(s, n);
+    let v = tile_refusal(s, release, n);
     match v {
         Verdict::Refused { number, place } => TileAnswer::Refused { number, place },
         Verdict::Accepted => {
             let e = entry_place(s, n);
             let q = sub_block_place(s, n, e);
-            TileAnswer::Found(subblocks::tile_at(n, s, e, s, q))
+            TileAnswer::Found(subblocks::tile_at(n, s, e, s, q, release))
         }
     }
 }
 
 // The stretch of the pixels of tile n.
-pub fn tile_pixels_span(s: &[u8], n: u64) -> SpanAnswer
-    ensures { λ r. ⌜ SpanAnswered (tileVerdict (scanOf (now (s .entry))) n) (tilePixels (scanOf (now (s .entry))) n) r ⌝ }
+pub fn tile_pixels_span(s: &[u8], release: Release, n: u64) -> SpanAnswer
+    ensures { λ r. ⌜ SpanAnswered (tileVerdict (scanOf (now (s .entry)) release) n) (tilePixels (scanOf (now (s .entry)) release) n) r ⌝ }
 {
-    let v = tile_refusal(s, n);
+    let v = tile_refusal(s, release, n);
     match v {
         Verdict::Refused { number, place } => SpanAnswer::Refused { number, place },
         Verdict::Accepted => {
@@ -116,20 +117,20 @@ pub fn tile_pixels_span(s: &[u8], n: u64) -> SpanAnswer
 }
 
 // The pixels of tile n: the very bytes of the lent file.
-pub fn tile_pixels(s: &[u8], n: u64) -> &[u8]
-    ensures { λ r. ⌜ View (s .entry) (tilePixels (scanOf (now (s .entry))) n) r ⌝ }
+pub fn tile_pixels(s: &[u8], release: Release, n: u64) -> &[u8]
+    ensures { λ r. ⌜ View (s .entry) (tilePixels (scanOf (now (s .entry)) release) n) r ⌝ }
 {
-    let view = span_in(tile_pixels_span(s, n));
+    let view = span_in(tile_pixels_span(s, release, n));
     let start = view.start;
     let length = view.length;
     fields::part(s, start, length)
 }
 
 // The stretch of the metadata of tile n.
-pub fn tile_metadata_span(s: &[u8], n: u64) -> SpanAnswer
-    ensures { λ r. ⌜ SpanAnswered (tileVerdict (scanOf (now (s .entry))) n) (tileMetadata (scanOf (now (s .entry))) n) r ⌝ }
+pub fn tile_metadata_span(s: &[u8], release: Release, n: u64) -> SpanAnswer
+    ensures { λ r. ⌜ SpanAnswered (tileVerdict (scanOf (now (s .entry)) release) n) (tileMetadata (scanOf (now (s .entry)) release) n) r ⌝ }
 {
-    let v = tile_refusal(s, n);
+    let v = tile_refusal(s, release, n);
     match v {
         Verdict::Refused { number, place } => SpanAnswer::Refused { number, place },
         Verdict::Accepted => {
@@ -141,20 +142,20 @@ pub fn tile_metadata_span(s: &[u8], n: u64) -> SpanAnswer
 }
 
 // The metadata of tile n.
-pub fn tile_metadata(s: &[u8], n: u64) -> &[u8]
-    ensures { λ r. ⌜ View (s .entry) (tileMetadata (scanOf (now (s .entry))) n) r ⌝ }
+pub fn tile_metadata(s: &[u8], release: Release, n: u64) -> &[u8]
+    ensures { λ r. ⌜ View (s .entry) (tileMetadata (scanOf (now (s .entry)) release) n) r ⌝ }
 {
-    let view = span_in(tile_metadata_span(s, n));
+    let view = span_in(tile_metadata_span(s, release, n));
     let start = view.start;
     let length = view.length;
     fields::part(s, start, length)
 }
 
 // The stretch of the attachment of tile n.
-pub fn tile_attachment_span(s: &[u8], n: u64) -> SpanAnswer
-    ensures { λ r. ⌜ SpanAnswered (tileVerdict (scanOf (now (s .entry))) n) (tileAttachment (scanOf (now (s .entry))) n) r ⌝ }
+pub fn tile_attachment_span(s: &[u8], release: Release, n: u64) -> SpanAnswer
+    ensures { λ r. ⌜ SpanAnswered (tileVerdict (scanOf (now (s .entry)) release) n) (tileAttachment (scanOf (now (s .entry)) release) n) r ⌝ }
 {
-    let v = tile_refusal(s, n);
+    let v = tile_refusal(s, release, n);
     match v {
         Verdict::Refused { number, place } => SpanAnswer::Refused { number, place },
         Verdict::Accepted => {
@@ -166,10 +167,10 @@ pub fn tile_attachment_span(s: &[u8], n: u64) -> SpanAnswer
 }
 
 // The attachment of tile n.
-pub fn tile_attachment(s: &[u8], n: u64) -> &[u8]
-    ensures { λ r. ⌜ View (s .entry) (tileAttachment (scanOf (now (s .entry))) n) r ⌝ }
+pub fn tile_attachment(s: &[u8], release: Release, n: u64) -> &[u8]
+    ensures { λ r. ⌜ View (s .entry) (tileAttachment (scanOf (now (s .entry)) release) n) r ⌝ }
 {
-    let view = span_in(tile_attachment_span(s, n));
+    let view = span_in(tile_attachment_span(s, release, n));
     let start = view.start;
     let length = view.length;
     fields::part(s, start, length)
@@ -178,10 +179,10 @@ pub fn tile_attachment(s: &[u8], n: u64) -> &[u8]
 // ---- dimensions of a tile, counted from 0
 
 // The refusal of the file, or 24 where there is no tile n or no dimension k of it.
-pub fn dimension_refusal(s: &[u8], n: u64, k: u64) -> Verdict
-    ensures { λ r. ⌜ VerdictAnswered (dimensionVerdict (scanOf (now (s .entry))) n k) r ⌝ }
+pub fn dimension_refusal(s: &[u8], release: Release, n: u64, k: u64) -> Verdict
+    ensures { λ r. ⌜ VerdictAnswered (dimensionVerdict (scanOf (now (s .entry)) release) n k) r ⌝ }
 {
-    let v = tile_refusal(s, n);
+    let v = tile_refusal(s, release, n);
     match v {
         Verdict::Refused { number, place } => Verdict::Refused { number, place },
         Verdict::Accepted => {
@@ -197,10 +198,10 @@ pub fn dimension_refusal(s: &[u8], n: u64, k: u64) -> Verdict
 }
 
 // The dimension record of dimension k of tile n.
-pub fn dimension(s: &[u8], n: u64, k: u64) -> DimensionAnswer
-    ensures { λ r. ⌜ DimensionAnswered (dimensionVerdict (scanOf (now (s .entry))) n k) (dimensionRecord (scanOf (now (s .entry))) n k) r ⌝ }
+pub fn dimension(s: &[u8], release: Release, n: u64, k: u64) -> DimensionAnswer
+    ensures { λ r. ⌜ DimensionAnswered (dimensionVerdict (scanOf (now (s .entry)) release) n k) (dimensionRecord (scanOf (now (s .entry)) release) n k) r ⌝ }
 {
-    let v = dimension_refusal(s, n, k);
+    let v = dimension_refusal(s, release, n, k);
     match v {
         Verdict::Refused { number, place } => DimensionAnswer::Refused { number, place },
         Verdict::Accepted => {
@@ -213,10 +214,10 @@ pub fn dimension(s: &[u8], n: u64, k: u64) -> DimensionAnswer
 // ---- attachments: entries of the attachment directory, counted from 0
 
 // The refusal of the file, or 24 where there is no attachment n.
-pub fn attachment_refusal(s: &[u8], n: u64) -> Verdict
-    ensures { λ r. ⌜ VerdictAnswered (attachmentVerdict (scanOf (now (s .entry))) n) r ⌝ }
+pub fn attachment_refusal(s: &[u8], release: Release, n: u64) -> Verdict
+    ensures { λ r. ⌜ VerdictAnswered (attachmentVerdict (scanOf (now (s .entry)) release) n) r ⌝ }
 {
-    let v = judge::judge(s);
+    let v = judge::judge(s, release);
     match v {
         Verdict::Refused { number, place } => Verdict::Refused { number, place },
         Verdict::Accepted => {
@@ -231,9 +232,9 @@ pub fn attachment_refusal(s: &[u8], n: u64) -> Verdict
     }
 }
 
-// Where the entry of attachment n stands.
+// Where the entry of attachment n of an accepted file stands.
 fn attachment_entry_place(s: &[u8], n: u64) -> u64
-    requires { ⌜ attachmentVerdict (scanOf (now s)) n ≡ Accepted ⌝ }
+    requires { ⌜ AcceptedFile (now s) × (n < attachmentCount (now s)) ⌝ }
     ensures { λ r. ⌜ r ≡ attachmentEntry (attachmentDirectoryPosition (now (s .entry))) n ⌝ }
 {
     attachments::attachment_entry(segments::file::attachment_directory_position(s), n)
@@ -241,7 +242,7 @@ fn attachment_entry_place(s: &[u8], n: u64) -> u64
 
 // Where attachment n stands.
 fn attachment_segment(s: &[u8], n: u64) -> u64
-    requires { ⌜ attachmentVerdict (scanOf (now s)) n ≡ Accepted ⌝ }
+    requires { ⌜ AcceptedFile (now s) × (n < attachmentCount (now s)) ⌝ }
     ensures { λ r. ⌜ r ≡ attachmentPosition (now (s .entry)) (attachmentEntry (attachmentDirectoryPosition (now (s .entry))) n) ⌝ }
 {
     attachments::attachment_position(s, attachment_entry_place(s, n))
@@ -249,7 +250,7 @@ fn attachment_segment(s: &[u8], n: u64) -> u64
 
 // The stretch of the data of attachment n, which stands at q.
 fn data_span(s: &[u8], n: u64, q: u64) -> Span
-    requires { ⌜ attachmentVerdict (scanOf (now s)) n ≡ Accepted ⌝ }
+    requires { ⌜ AcceptedFile (now s) × (n < attachmentCount (now s)) ⌝ }
     requires { ⌜ q ≡ attachmentPosition (now s) (attachmentEntry (attachmentDirectoryPosition (now s)) n) ⌝ }
     ensures { λ r. ⌜ r ≡ attachmentDataSpan (now (s .entry)) q ⌝ }
 {
@@ -259,10 +260,10 @@ fn data_span(s: &[u8], n: u64, q: u64) -> Span
 }
 
 // The attachment record of number n.
-pub fn attachment(s: &[u8], n: u64) -> AttachmentAnswer
-    ensures { λ r. ⌜ AttachmentAnswered (attachmentVerdict (scanOf (now (s .entry))) n) (attachmentRecord (scanOf (now (s .entry))) n) r ⌝ }
+pub fn attachment(s: &[u8], release: Release, n: u64) -> AttachmentAnswer
+    ensures { λ r. ⌜ AttachmentAnswered (attachmentVerdict (scanOf (now (s .entry)) release) n) (attachmentRecord (scanOf (now (s .entry)) release) n) r ⌝ }
 {
-    let v = attachment_refusal(s, n);
+    let v = attachment_refusal(s, release, n);
     match v {
         Verdict::Refused { number, place } => AttachmentAnswer::Refused { number, place },
         Verdict::Accepted => {
@@ -279,10 +280,10 @@ pub fn attachment(s: &[u8], n: u64) -> AttachmentAnswer
 }
 
 // The stretch of the data of attachment n.
-pub fn attachment_data_span(s: &[u8], n: u64) -> SpanAnswer
-    ensures { λ r. ⌜ SpanAnswered (attachmentVerdict (scanOf (now (s .entry))) n) (attachmentData (scanOf (now (s .entry))) n) r ⌝ }
+pub fn attachment_data_span(s: &[u8], release: Release, n: u64) -> SpanAnswer
+    ensures { λ r. ⌜ SpanAnswered (attachmentVerdict (scanOf (now (s .entry)) release) n) (attachmentData (scanOf (now (s .entry)) release) n) r ⌝ }
 {
-    let v = attachment_refusal(s, n);
+    let v = attachment_refusal(s, release, n);
     match v {
         Verdict::Refused { number, place } => SpanAnswer::Refused { number, place },
         Verdict::Accepted => SpanAnswer::Found(data_span(s, n, attachment_segment(s, n))),
@@ -290,10 +291,10 @@ pub fn attachment_data_span(s: &[u8], n: u64) -> SpanAnswer
 }
 
 // The data of attachment n.
-pub fn attachment_data(s: &[u8], n: u64) -> &[u8]
-    ensures { λ r. ⌜ View (s .entry) (attachmentData (scanOf (now (s .entry))) n) r ⌝ }
+pub fn attachment_data(s: &[u8], release: Release, n: u64) -> &[u8]
+    ensures { λ r. ⌜ View (s .entry) (attachmentData (scanOf (now (s .entry)) release) n) r ⌝ }
 {
-    let view = span_in(attachment_data_span(s, n));
+    let view = span_in(attachment_data_span(s, release, n));
     let start = view.start;
     let length = view.length;
     fields::part(s, start, length)
@@ -303,7 +304,7 @@ pub fn attachment_data(s: &[u8], n: u64) -> &[u8]
 
 // The stretch of the XML of an accepted file.
 fn xml_span(s: &[u8]) -> Span
-    requires { ⌜ verdict (scanOf (now s)) ≡ Accepted ⌝ }
+    requires { ⌜ AcceptedFile (now s) ⌝ }
     ensures { λ r. ⌜ r ≡ xmlSpan (now (s .entry)) (metadataPosition (now (s .entry))) ⌝ }
 {
     let m = segments::file::metadata_position(s);
@@ -317,7 +318,7 @@ fn xml_span(s: &[u8]) -> Span
 
 // The stretch of the attachment of an accepted file, behind the XML.
 fn xml_attachment_span(s: &[u8]) -> Span
-    requires { ⌜ verdict (scanOf (now s)) ≡ Accepted ⌝ }
+    requires { ⌜ AcceptedFile (now s) ⌝ }
     ensures { λ r. ⌜ r ≡ xmlAttachmentSpan (now (s .entry)) (metadataPosition (now (s .entry))) ⌝ }
 {
     let m = segments::file::metadata_position(s);
@@ -331,10 +332,10 @@ fn xml_attachment_span(s: &[u8]) -> Span
 }
 
 // The stretch of the common XML.
-pub fn common_xml_span(s: &[u8]) -> SpanAnswer
-    ensures { λ r. ⌜ SpanAnswered (verdict (scanOf (now (s .entry)))) (commonXml (scanOf (now (s .entry)))) r ⌝ }
+pub fn common_xml_span(s: &[u8], release: Release) -> SpanAnswer
+    ensures { λ r. ⌜ SpanAnswered (verdict (scanOf (now (s .entry)) release)) (commonXml (scanOf (now (s .entry)) release)) r ⌝ }
 {
-    let v = judge::judge(s);
+    let v = judge::judge(s, release);
     match v {
         Verdict::Refused { number, place } => SpanAnswer::Refused { number, place },
         Verdict::Accepted => SpanAnswer::Found(xml_span(s)),
@@ -342,20 +343,20 @@ pub fn common_xml_span(s: &[u8]) -> SpanAnswer
 }
 
 // The common XML.
-pub fn common_xml(s: &[u8]) -> &[u8]
-    ensures { λ r. ⌜ View (s .entry) (commonXml (scanOf (now (s .entry)))) r ⌝ }
+pub fn common_xml(s: &[u8], release: Release) -> &[u8]
+    ensures { λ r. ⌜ View (s .entry) (commonXml (scanOf (now (s .entry)) release)) r ⌝ }
 {
-    let view = span_in(common_xml_span(s));
+    let view = span_in(common_xml_span(s, release));
     let start = view.start;
     let length = view.length;
     fields::part(s, start, length)
 }
 
 // The stretch of the common XML's attachment.
-pub fn common_attachment_span(s: &[u8]) -> SpanAnswer
-    ensures { λ r. ⌜ SpanAnswered (verdict (scanOf (now (s .entry)))) (commonAttachment (scanOf (now (s .entry)))) r ⌝ }
+pub fn common_attachment_span(s: &[u8], release: Release) -> SpanAnswer
+    ensures { λ r. ⌜ SpanAnswered (verdict (scanOf (now (s .entry)) release)) (commonAttachment (scanOf (now (s .entry)) release)) r ⌝ }
 {
-    let v = judge::judge(s);
+    let v = judge::judge(s, release);
     match v {
         Verdict::Refused { number, place } => SpanAnswer::Refused { number, place },
         Verdict::Accepted => SpanAnswer::Found(xml_attachment_span(s)),
@@ -363,10 +364,10 @@ pub fn common_attachment_span(s: &[u8]) -> SpanAnswer
 }
 
 // The common XML's attachment.
-pub fn common_attachment(s: &[u8]) -> &[u8]
-    ensures { λ r. ⌜ View (s .entry) (commonAttachment (scanOf (now (s .entry)))) r ⌝ }
+pub fn common_attachment(s: &[u8], release: Release) -> &[u8]
+    ensures { λ r. ⌜ View (s .entry) (commonAttachment (scanOf (now (s .entry)) release)) r ⌝ }
 {
-    let view = span_in(common_attachment_span(s));
+    let view = span_in(common_attachment_span(s, release));
     let start = view.start;
     let length = view.length;
     fields::part(s, start, length)

@@ -1,4 +1,4 @@
--- Demand 3 about whole calls, and the laws that it rests on.
+-- Demand 3 about whole calls, what the release is to them, and the laws that these rest on.
 pub mod Ranks
 pub mod Shifts
 pub mod Asking
@@ -7,3 +7,4 @@ pub mod Accepts
 pub mod Calls
 pub mod Halves
 pub mod Demand3
+pub mod Releases

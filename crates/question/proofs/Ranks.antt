@@ -5,7 +5,6 @@ use mathlib.Core.Logic.{⊎-elim}
 use mathlib.Core.List.{List, _∷_, List·Memᴰ, List·Memᴰ·not-nil, List·Memᴰ·cases-cons}
 use mathlib.Core.Bool.{Bool, true, false, cond}
 use native.Mathlib.Omega.{arith}
-use Rattle.format.specs.Scan.{Scan}
 use Rattle.format.specs.Choice.{Choice}
 use Rattle.format.specs.Bytes.{anyBelow, biased}
 use Rattle.format.specs.Entry.{dimensionCount, start, hasLetter, letterPlace}
@@ -14,9 +13,9 @@ use Rattle.plane.specs.Tiles.{Tile, Ranked}
 use Rattle.tiles.specs.FileTile.{rankOf, entryTile, fileTile, tilesBelow}
 
 -- a rank shows its entry's number
-pub rank-entry : (sc : Scan) (k e : ℕ) → k < 4096 → rankOf (sc .file) k e % 4096 ≡ k
+pub rank-entry : (bs : List ℕ) (k e : ℕ) → k < 4096 → rankOf bs k e % 4096 ≡ k
 unfolding rankOf
-rank-entry sc k e h = go (anyBelow (dimensionCount (sc .file) e) (hasLetter (sc .file) e 77)) (biased (start (sc .file) (letterPlace (sc .file) e 77)))
+rank-entry bs k e h = go (anyBelow (dimensionCount bs e) (hasLetter bs e 77)) (biased (start bs (letterPlace bs e 77)))
   where
     go : (b : Bool) (x : ℕ) → cond b ((x + 1) * 4096 + k) k % 4096 ≡ k
     go true x = omega arith
@@ -25,7 +24,7 @@ rank-entry sc k e h = go (anyBelow (dimensionCount (sc .file) e) (hasLetter (sc 
 module _ (ch : Choice) where
   pub tile-rank : (k : ℕ) → k < 4096 → fileTile ch k .rank % 4096 ≡ k
   unfolding fileTile entryTile
-  tile-rank k h = rank-entry (ch .scan) k (entryPlace (ch .scan .file) k) h
+  tile-rank k h = rank-entry (ch .scan .file) k (entryPlace (ch .scan .file) k) h
 
   -- the tile is that of an entry below n
   pub record Entry (n : ℕ) (s : Tile) : Type 0 where

@@ -2,3 +2,4 @@
 pub mod Question
 pub mod Call
 pub mod Demand3
+pub mod Releases

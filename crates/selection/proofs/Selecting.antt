@@ -9,15 +9,13 @@ use native.Mathlib.Omega.{arith}
 use lib.ListN.{length, getD, set, length-set}
 use lib.IntN.{ℤ}
 use lib.Seq.{getD-set-same, getD-set-other}
-use Rattle.format.specs.Scan.{scanOf}
 use Rattle.format.specs.Bytes.{allBelow}
 use Rattle.format.specs.Entry.{nextEntry, isPyramid}
 use Rattle.format.specs.Directory.{tileCount, entryPlace}
-use Rattle.format.specs.Rules.{verdict}
-use Rattle.format.specs.declared.Verdict.the-variants.{Accepted}
+use Rattle.format.specs.Rules.{AcceptedFile}
 use Rattle.format.proofs.Below.{all-zero, all-more, all-fails}
 use Rattle.format.proofs.Flags.{is-false, is-true-not, is-false-not}
-use Rattle.judge.proofs.AcceptedFile.{tiled}
+use Rattle.judge.proofs.AcceptedFile.{tiled-file}
 use Rattle.judge.proofs.EntryLoop.{AtEntry, at-start, at-next}
 use Rattle.selection.specs.Select.{startsThere, selects}
 use Rattle.selection.specs.Table.{Selection}
@@ -77,10 +75,10 @@ module _ (bs : List ℕ) (starts : List ℤ) (anyScene : Bool) (before : List �
     pub selecting-all : n ≤ tileCount bs
     selecting-all = omega (arith, w .whole)
 
-    pub selecting-few : verdict (scanOf bs) ≡ Accepted → n ≤ 4096
-    selecting-few a = rw (w .whole) (tiled (scanOf bs) a .few)
+    pub selecting-few : AcceptedFile bs → n ≤ 4096
+    selecting-few a = rw (w .whole) (tiled-file bs a .few)
 
-    pub selecting-next : (v q : ℕ) → verdict (scanOf bs) ≡ Accepted → k < n → v ≡ cond (selects bs starts anyScene e) e 0 → q ≡ nextEntry bs e
+    pub selecting-next : (v q : ℕ) → AcceptedFile bs → k < n → v ≡ cond (selects bs starts anyScene e) e 0 → q ≡ nextEntry bs e
         → Selecting bs starts anyScene before (set t k v) n q (k + 1)
     selecting-next v q a h f g = record {
       whole = w .whole;

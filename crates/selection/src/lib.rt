@@ -3,10 +3,8 @@ ghost use mathlib.Core.Path.{_≡_};
 ghost use Prim.Native.Nat.{_≤_};
 ghost use mathlib.Core.Bool.{false, cond};
 ghost use lib.ListN.{length};
-ghost use Rattle.format.specs.Scan.{scanOf};
 ghost use Rattle.format.specs.Entry.{nextEntry, dimensionsBad};
-ghost use Rattle.format.specs.Rules.{verdict};
-ghost use Rattle.format.specs.declared.Verdict.the-variants.{Accepted};
+ghost use Rattle.format.specs.Rules.{AcceptedFile};
 ghost use Rattle.selection.specs.Select.{askedStart, tileStart, free, startsThere, selects};
 ghost use Rattle.selection.specs.Table.{Selection};
 
@@ -100,7 +98,7 @@ fn place_if_selected(s: &[u8], e: u64, starts: &[i32], any_scene: bool) -> u64
 
 // The places of the selected entries of an accepted file go to the table, entry by entry, 0 for each other; answers how many entries there are.
 pub fn select(s: &[u8], starts: &[i32], any_scene: bool, table: &mut [u64; 4096]) -> u64
-    requires { ⌜ verdict (scanOf (now s)) ≡ Accepted ⌝ }
+    requires { ⌜ AcceptedFile (now s) ⌝ }
     requires { ⌜ length (now table) ≡ 4096 ⌝ }
     ensures { λ r. ⌜ Selection (now (s .entry)) (now (starts .entry)) «any_scene» (now (table .entry)) (now (table .exit)) r ⌝ }
 {

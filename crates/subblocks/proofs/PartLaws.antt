@@ -4,9 +4,12 @@ use mathlib.Core.Path.{_≡_, refl, sym, _∙_}
 use mathlib.Core.List.{List, []}
 use mathlib.Core.Bool.{Bool, true, false, cond, not}
 use Rattle.format.specs.Checks.{first}
+use Rattle.format.specs.Container.{isContainer}
 use Rattle.format.specs.Masks.{hasChunks, chunksRows, maskFrom}
 use Rattle.format.specs.Directory.{attachmentRows}
 use Rattle.format.specs.Records.{maskOf}
+use Rattle.format.specs.declared.Release.{Release}
+use Rattle.format.specs.declared.Release.the-variants.{R102, R12}
 use Rattle.format.specs.declared.Verdict.{Verdict}
 use Rattle.format.specs.declared.Verdict.the-variants.{Accepted}
 use Rattle.format.specs.declared.TileMask.{TileMask}
@@ -120,27 +123,40 @@ module _ (ds : List ℕ) (e : ℕ) (bs : List ℕ) (q d : ℕ) (l : d ≡ dataSi
   pub size-right : not r ≡ false → eqb (dataSize bs q) (pixelsSize ds e) ≡ true
   size-right h = rw (← l) (is-true-not r _ k h)
 
--- ---- the attachment at a, of n bytes; r says whether it is a chunk container
+-- ---- whether the attachment is a chunk container, by the release rel and the metadata, at p and of n bytes
+
+module _ (ds : List ℕ) (e : ℕ) (bs : List ℕ) (q : ℕ) (rel : Release) where
+  pub older-plain : rel ≡ R102 → false ≡ hasChunks ds e bs q rel
+  unfolding hasChunks
+  older-plain i = rw i
+
+  pub newer-declared : (p n : ℕ) (r : Bool) → rel ≡ R12 → p ≡ metadataPlace ds e q → n ≡ metadataSize bs q → r ≡ isContainer bs p n
+      → r ≡ hasChunks ds e bs q rel
+  unfolding hasChunks
+  newer-declared p n r i j k h = rw (i, ← j, ← k) h
+
+-- ---- the attachment at a, of n bytes, under the release rel; r says whether it is a chunk container
 
 -- the chunks of a container whose rows accept
-pub container-chunks : (ds : List ℕ) (e : ℕ) (bs : List ℕ) (q : ℕ) → hasChunks ds e bs q ≡ true → first (attachmentRows ds e bs q) ≡ Accepted
+pub container-chunks : (ds : List ℕ) (e : ℕ) (bs : List ℕ) (q : ℕ) (rel : Release) → hasChunks ds e bs q rel ≡ true
+    → first (attachmentRows ds e bs q rel) ≡ Accepted
     → first (chunksRows (attachmentSize bs q) bs (attachmentPlace ds e bs q + attachmentSize bs q) false (attachmentPlace ds e bs q)) ≡ Accepted
 unfolding attachmentRows
-container-chunks ds e bs q h a = rw h at a
+container-chunks ds e bs q rel h a = rw h at a
 
 module _ (ds : List ℕ) (e : ℕ) (bs : List ℕ) (q a n : ℕ) (j : n ≡ attachmentSize bs q) where
   -- an empty one has no chunks, whatever the metadata says
-  pub empty-accepted : n ≡ 0 → Accepted ≡ first (attachmentRows ds e bs q)
+  pub empty-accepted : (rel : Release) → n ≡ 0 → Accepted ≡ first (attachmentRows ds e bs q rel)
   unfolding attachmentRows chunksRows
-  empty-accepted z = rw (← j, z) (go (hasChunks ds e bs q))
+  empty-accepted rel z = rw (← j, z) (go (hasChunks ds e bs q rel))
     where
       go : (b : Bool) → Accepted ≡ first (cond b [] [])
       go true = refl
       go false = refl
 
-  pub empty-unmasked : n ≡ 0 → Unmasked ≡ maskOf ds e bs q
+  pub empty-unmasked : (rel : Release) → n ≡ 0 → Unmasked ≡ maskOf ds e bs q rel
   unfolding maskOf maskFrom
-  empty-unmasked z = rw (← j, z) (go (hasChunks ds e bs q))
+  empty-unmasked rel z = rw (← j, z) (go (hasChunks ds e bs q rel))
     where
       go : (b : Bool) → Unmasked ≡ cond b Unmasked Unmasked
       go true = refl
@@ -150,24 +166,24 @@ module _ (ds : List ℕ) (e : ℕ) (bs : List ℕ) (q a n : ℕ) (j : n ≡ atta
     pub attachment-in : Filled ds e bs q → a + n ≤ length bs
     attachment-in f = omega (arith, filled-in ds e bs q f .attachment)
 
-    module _ (r : Bool) (k : r ≡ hasChunks ds e bs q) (h : not r ≡ false) where
-      pub chunks-judged : (v : Verdict) → v ≡ first (chunksRows (a + n - a) bs (a + n) false a) → v ≡ first (attachmentRows ds e bs q)
+    module _ (rel : Release) (r : Bool) (k : r ≡ hasChunks ds e bs q rel) (h : not r ≡ false) where
+      pub chunks-judged : (v : Verdict) → v ≡ first (chunksRows (a + n - a) bs (a + n) false a) → v ≡ first (attachmentRows ds e bs q rel)
       unfolding attachmentRows
       chunks-judged v l = rw (is-true-not r _ k h, ← i, ← j) (rw add-sub-cancel-left at l)
 
-      pub chunks-masked : (m : TileMask) → m ≡ maskFrom (a + n - a) bs (a + n) a → m ≡ maskOf ds e bs q
+      pub chunks-masked : (m : TileMask) → m ≡ maskFrom (a + n - a) bs (a + n) a → m ≡ maskOf ds e bs q rel
       unfolding maskOf
       chunks-masked m l = rw (is-true-not r _ k h, ← i, ← j) (rw add-sub-cancel-left at l)
 
-      pub chunks-accepted : first (attachmentRows ds e bs q) ≡ Accepted → first (chunksRows (a + n - a) bs (a + n) false a) ≡ Accepted
-      chunks-accepted l = rw (add-sub-cancel-left, i, j) (container-chunks ds e bs q (is-true-not r _ k h) l)
+      pub chunks-accepted : first (attachmentRows ds e bs q rel) ≡ Accepted → first (chunksRows (a + n - a) bs (a + n) false a) ≡ Accepted
+      chunks-accepted l = rw (add-sub-cancel-left, i, j) (container-chunks ds e bs q rel (is-true-not r _ k h) l)
 
 -- the attachment of one that is no container
-module _ (ds : List ℕ) (e : ℕ) (bs : List ℕ) (q : ℕ) (r : Bool) (k : r ≡ hasChunks ds e bs q) (h : not r ≡ true) where
-  pub plain-accepted : Accepted ≡ first (attachmentRows ds e bs q)
+module _ (ds : List ℕ) (e : ℕ) (bs : List ℕ) (q : ℕ) (rel : Release) (r : Bool) (k : r ≡ hasChunks ds e bs q rel) (h : not r ≡ true) where
+  pub plain-accepted : Accepted ≡ first (attachmentRows ds e bs q rel)
   unfolding attachmentRows
   plain-accepted = rw (is-false-not r _ k h)
 
-  pub plain-unmasked : Unmasked ≡ maskOf ds e bs q
+  pub plain-unmasked : Unmasked ≡ maskOf ds e bs q rel
   unfolding maskOf
   plain-unmasked = rw (is-false-not r _ k h)

@@ -10,6 +10,7 @@ use Rattle.format.specs.Segments.{room}
 use Rattle.format.specs.Entry.{pixelType, pixelBytes, dimensionCount, nextEntry, dimensionsBad}
 use Rattle.format.specs.SubBlock.{subBlockBad, contentsBad}
 use Rattle.format.specs.Directory.{attachmentRows}
+use Rattle.format.specs.declared.Release.{Release}
 use Rattle.format.specs.declared.Verdict.the-variants.{Accepted}
 
 -- the entry lies in its file, is well formed and of a listed pixel type
@@ -34,7 +35,7 @@ pub record Filled (ds : List ℕ) (e : ℕ) (bs : List ℕ) (q : ℕ) : Type 0 w
   pub agreed : CopyAgrees ds e bs q
   pub contents : contentsBad ds e bs q ≡ false
 
--- besides, the attachment's chunks are as they should be
-pub record Judged (ds : List ℕ) (e : ℕ) (bs : List ℕ) (q : ℕ) : Type 0 where
+-- besides, the attachment's chunks are as the release r wants them
+pub record Judged (ds : List ℕ) (e : ℕ) (bs : List ℕ) (q : ℕ) (r : Release) : Type 0 where
   pub filled : Filled ds e bs q
-  pub attachment : first (attachmentRows ds e bs q) ≡ Accepted
+  pub attachment : first (attachmentRows ds e bs q r) ≡ Accepted

@@ -1,4 +1,5 @@
 // Judges a sub-block against its directory entry and reads the tile record. The entry lies in the slice d, the sub-block in the slice s.
+use format::Release;
 use format::Span;
 use format::Tile;
 use format::TileMask;
@@ -181,24 +182,29 @@ pub fn attachment_span(d: &[u8], e: u64, s: &[u8], q: u64) -> Span
 
 // ---- the attachment's chunks
 
-// Whether the attachment is a chunk container: the metadata declare one.
-fn has_chunks(d: &[u8], e: u64, s: &[u8], q: u64) -> bool
+// Whether the attachment is a chunk container: the release is 1.2, and the metadata declare one.
+fn has_chunks(d: &[u8], e: u64, s: &[u8], q: u64, release: Release) -> bool
     requires { ⌜ Filled (now d) e (now s) q ⌝ }
-    ensures { λ r. ⌜ r ≡ hasChunks (now (d .entry)) e (now (s .entry)) q ⌝ }
+    ensures { λ r. ⌜ r ≡ hasChunks (now (d .entry)) e (now (s .entry)) q release ⌝ }
 {
-    markup::section::is_container(s, metadata_place(d, e, s, q), metadata_size(s, q))
+    match release {
+        Release::R102 => false,
+        Release::R12 => {
+            markup::section::is_container(s, metadata_place(d, e, s, q), metadata_size(s, q))
+        }
+    }
 }
 
 // Refusals 17 and 18 of the attachment. The metadata are read only where there is one.
-pub fn judge_attachment(d: &[u8], e: u64, s: &[u8], q: u64) -> Verdict
+pub fn judge_attachment(d: &[u8], e: u64, s: &[u8], q: u64, release: Release) -> Verdict
     requires { ⌜ Filled (now d) e (now s) q ⌝ }
-    ensures { λ r. ⌜ r ≡ first (attachmentRows (now (d .entry)) e (now (s .entry)) q) ⌝ }
+    ensures { λ r. ⌜ r ≡ first (attachmentRows (now (d .entry)) e (now (s .entry)) q release) ⌝ }
 {
     let n = attachment_size(s, q);
     if n == 0 {
         return Verdict::Accepted;
     }
-    if !has_chunks(d, e, s, q) {
+    if !has_chunks(d, e, s, q, release) {
         return Verdict::Accepted;
     }
     let a = attachment_place(d, e, s, q);
@@ -206,15 +212,15 @@ pub fn judge_attachment(d: &[u8], e: u64, s: &[u8], q: u64) -> Verdict
 }
 
 // The tile's mask.
-pub fn mask_of(d: &[u8], e: u64, s: &[u8], q: u64) -> TileMask
-    requires { ⌜ Judged (now d) e (now s) q ⌝ }
-    ensures { λ r. ⌜ r ≡ maskOf (now (d .entry)) e (now (s .entry)) q ⌝ }
+pub fn mask_of(d: &[u8], e: u64, s: &[u8], q: u64, release: Release) -> TileMask
+    requires { ⌜ Judged (now d) e (now s) q release ⌝ }
+    ensures { λ r. ⌜ r ≡ maskOf (now (d .entry)) e (now (s .entry)) q release ⌝ }
 {
     let n = attachment_size(s, q);
     if n == 0 {
         return TileMask::Unmasked;
     }
-    if !has_chunks(d, e, s, q) {
+    if !has_chunks(d, e, s, q, release) {
         return TileMask::Unmasked;
     }
     let a = attachment_place(d, e, s, q);
@@ -224,9 +230,9 @@ pub fn mask_of(d: &[u8], e: u64, s: &[u8], q: u64) -> TileMask
 // ---- the tile record
 
 // The tile record of entry n.
-pub fn tile_at(n: u64, d: &[u8], e: u64, s: &[u8], q: u64) -> Tile
-    requires { ⌜ Judged (now d) e (now s) q ⌝ }
-    ensures { λ r. ⌜ r ≡ tileAt n (now (d .entry)) e (now (s .entry)) q ⌝ }
+pub fn tile_at(n: u64, d: &[u8], e: u64, s: &[u8], q: u64, release: Release) -> Tile
+    requires { ⌜ Judged (now d) e (now s) q release ⌝ }
+    ensures { λ r. ⌜ r ≡ tileAt n (now (d .entry)) e (now (s .entry)) q release ⌝ }
 {
     let x = entries::letter_extent(d, e, 88);
     let y = entries::letter_extent(d, e, 89);
@@ -237,7 +243,7 @@ pub fn tile_at(n: u64, d: &[u8], e: u64, s: &[u8], q: u64) -> Tile
     let metadata = metadata_span(d, e, s, q);
     let pixels = pixels_span(d, e, s, q);
     let attachment = attachment_span(d, e, s, q);
-    let mask = mask_of(d, e, s, q);
+    let mask = mask_of(d, e, s, q, release);
     Tile {
         entry: n,
         place: e,

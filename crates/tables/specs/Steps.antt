@@ -4,17 +4,16 @@ use mathlib.Core.Path.{_≡_}
 use mathlib.Core.List.{List}
 use lib.ListN.{length}
 use lib.IntN.{ℤ, pos}
-use Rattle.format.specs.Scan.{scanOf}
+use Rattle.format.specs.Scan.{Scan}
+use Rattle.format.specs.Entry.{dimensionPlace}
 use Rattle.format.specs.Directory.{tileCount, entryPlace}
-use Rattle.format.specs.Rules.{verdict}
-use Rattle.format.specs.Records.{tileRecord, dimensionRecord}
-use Rattle.format.specs.declared.Verdict.the-variants.{Accepted}
+use Rattle.format.specs.Records.{tileRecord, dimensionAt}
+use Rattle.format.specs.declared.Dimension.{Dimension}
 use Rattle.tables.specs.Numbers.{tileNumbers, tileStarts, dimensionNumbers, dimensionStarts}
 use Rattle.tables.specs.Rows.{Stretch, Rows}
 
--- the entry of tile k stands at e of an accepted file
+-- the entry of tile k stands at e of the file bs
 pub record TileAt (bs : List ℕ) (k e : ℕ) : Type 0 where
-  pub accepted : verdict (scanOf bs) ≡ Accepted
   pub below : k < tileCount bs
   pub place : e ≡ entryPlace bs k
 
@@ -24,16 +23,20 @@ pub record RowRoom (w v n : ℕ) (numbers : List ℕ) (starts : List ℤ) : Type
   pub starts-fit : v * n ≤ length starts
 
 -- the record of tile k is put
-pub record TilePut (bs : List ℕ) (k : ℕ) (numbers₀ : List ℕ) (starts₀ : List ℤ) (numbers : List ℕ) (starts : List ℤ) : Type 0 where
-  pub numbers-are : Stretch 0 (22 * k) 22 (tileNumbers (tileRecord (scanOf bs) k)) numbers₀ numbers
-  pub starts-are : Stretch (pos 0) (3 * k) 3 (tileStarts (tileRecord (scanOf bs) k)) starts₀ starts
+pub record TilePut (sc : Scan) (k : ℕ) (numbers₀ : List ℕ) (starts₀ : List ℤ) (numbers : List ℕ) (starts : List ℤ) : Type 0 where
+  pub numbers-are : Stretch 0 (22 * k) 22 (tileNumbers (tileRecord sc k)) numbers₀ numbers
+  pub starts-are : Stretch (pos 0) (3 * k) 3 (tileStarts (tileRecord sc k)) starts₀ starts
 
--- the record of dimension j of tile k is put in row r
+-- the record of dimension j of tile k, the same under every release
+abbrev pub dimensionOf : List ℕ → ℕ → ℕ → Dimension
+dimensionOf bs k j = dimensionAt bs (dimensionPlace (entryPlace bs k) j)
+
+-- it is put in row r
 pub record DimensionPut (bs : List ℕ) (k j r : ℕ) (numbers₀ : List ℕ) (starts₀ : List ℤ) (numbers : List ℕ) (starts : List ℤ) : Type 0 where
-  pub numbers-are : Stretch 0 (5 * r) 5 (dimensionNumbers k (dimensionRecord (scanOf bs) k j)) numbers₀ numbers
-  pub starts-are : Stretch (pos 0) (1 * r) 1 (dimensionStarts (dimensionRecord (scanOf bs) k j)) starts₀ starts
+  pub numbers-are : Stretch 0 (5 * r) 5 (dimensionNumbers k (dimensionOf bs k j)) numbers₀ numbers
+  pub starts-are : Stretch (pos 0) (1 * r) 1 (dimensionStarts (dimensionOf bs k j)) starts₀ starts
 
 -- the records of the first c dimensions of tile k are put in the rows from r on
 pub record DimensionsPut (bs : List ℕ) (k c r : ℕ) (numbers₀ : List ℕ) (starts₀ : List ℤ) (numbers : List ℕ) (starts : List ℤ) : Type 0 where
-  pub numbers-are : Rows 0 5 r c (λ j. dimensionNumbers k (dimensionRecord (scanOf bs) k j)) numbers₀ numbers
-  pub starts-are : Rows (pos 0) 1 r c (λ j. dimensionStarts (dimensionRecord (scanOf bs) k j)) starts₀ starts
+  pub numbers-are : Rows 0 5 r c (λ j. dimensionNumbers k (dimensionOf bs k j)) numbers₀ numbers
+  pub starts-are : Rows (pos 0) 1 r c (λ j. dimensionStarts (dimensionOf bs k j)) starts₀ starts

@@ -6,16 +6,17 @@ use mathlib.Core.Bool.{Bool}
 use lib.ListN.{length, getD}
 use lib.IntN.{ℤ, pos}
 use lib.Dec.{ltb}
-use Rattle.format.specs.Scan.{Scan, scanOf}
+use Rattle.format.specs.Scan.{Scan}
 use Rattle.format.specs.Bytes.{anyOf}
 use Rattle.format.specs.Checks.{row, first, ifAccepted}
 use Rattle.format.specs.Entry.{dimensionCount}
 use Rattle.format.specs.Directory.{tileCount, entryPlace}
-use Rattle.format.specs.Rules.{checks, verdict}
+use Rattle.format.specs.Rules.{checks}
 use Rattle.format.specs.Records.{tileRecord, dimensionRecord}
 use Rattle.format.specs.Answers.{VerdictAnswered}
 use Rattle.format.specs.declared.Verdict.{Verdict}
 use Rattle.format.specs.declared.Verdict.the-variants.{Accepted, Refused}
+use Rattle.format.specs.declared.Dimension.{Dimension}
 use Rattle.tables.specs.Numbers.{tileNumbers, tileStarts, dimensionNumbers, dimensionStarts}
 use Rattle.tables.specs.Rows.{Rows}
 use Rattle.tables.specs.declared.tiles.Table.{Table}
@@ -72,11 +73,14 @@ pub record Groups {A : Type 0} (none : A) (w : ℕ) (bs : List ℕ) (n : ℕ) (n
       → getD after (w * (dimensionsBelow bs k + j) + i) none ≡ getD (numbered k j) i none
   pub past : (x : ℕ) → w * dimensionsBelow bs n ≤ x → getD after x none ≡ getD before x none
 
-pub record DimensionTable (sc : Scan) (n : ℕ) (numbers₀ : List ℕ) (starts₀ : List ℤ) (numbers : List ℕ) (starts : List ℤ) : Type 0 where
-  pub numbers-are : Groups 0 5 (sc .file) n (λ k j. dimensionNumbers k (dimensionRecord sc k j)) numbers₀ numbers
-  pub starts-are : Groups (pos 0) 1 (sc .file) n (λ k j. dimensionStarts (dimensionRecord sc k j)) starts₀ starts
+-- `dimension k j` is the record of dimension j of tile k
+pub record DimensionTable (bs : List ℕ) (dimension : ℕ → ℕ → Dimension) (n : ℕ) (numbers₀ : List ℕ) (starts₀ : List ℤ) (numbers : List ℕ) (starts : List ℤ)
+    : Type 0 where
+  pub numbers-are : Groups 0 5 bs n (λ k j. dimensionNumbers k (dimension k j)) numbers₀ numbers
+  pub starts-are : Groups (pos 0) 1 bs n (λ k j. dimensionStarts (dimension k j)) starts₀ starts
 
 abbrev pub DimensionArrays : Scan → List ℕ → List ℤ → List ℕ → List ℤ → Type 0
 DimensionArrays sc numbers₀ starts₀ numbers starts =
-    Arrays (dimensionsVerdict sc (length numbers₀) (length starts₀)) (DimensionTable sc (tileCount (sc .file)) numbers₀ starts₀ numbers starts)
+    Arrays (dimensionsVerdict sc (length numbers₀) (length starts₀))
+    (DimensionTable (sc .file) (dimensionRecord sc) (tileCount (sc .file)) numbers₀ starts₀ numbers starts)
     numbers₀ starts₀ numbers starts

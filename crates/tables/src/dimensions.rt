@@ -5,21 +5,21 @@ use crate::rows::put_numbers;
 use crate::rows::put_starts;
 use crate::tiles::Table;
 use crate::tiles::too_short;
+use format::Release;
 use format::Verdict;
 ghost use mathlib.Core.Path.{_≡_};
 ghost use Prim.Native.Nat.{_+_, _≤_, _<_};
 ghost use lib.ListN.{length};
 ghost use Rattle.format.specs.Scan.{scanOf};
-ghost use Rattle.format.specs.Rules.{verdict};
+ghost use Rattle.format.specs.Rules.{AcceptedFile};
 ghost use Rattle.format.specs.Entry.{dimensionCount};
 ghost use Rattle.format.specs.Directory.{tileCount};
-ghost use Rattle.format.specs.declared.Verdict.the-variants.{Accepted};
 ghost use Rattle.tables.specs.Tables.{dimensionsBelow, dimensionTotal, dimensionsVerdict, DimensionTable, DimensionArrays, TableAnswered};
-ghost use Rattle.tables.specs.Steps.{TileAt, RowRoom, DimensionPut, DimensionsPut};
+ghost use Rattle.tables.specs.Steps.{TileAt, RowRoom, dimensionOf, DimensionPut, DimensionsPut};
 
 // How many dimensions the n tiles of an accepted file have.
 fn dimension_total(s: &[u8], n: u64) -> u64
-    requires { ⌜ (verdict (scanOf (now s)) ≡ Accepted) × (n ≡ tileCount (now s)) ⌝ }
+    requires { ⌜ AcceptedFile (now s) × (n ≡ tileCount (now s)) ⌝ }
     ensures { λ r. ⌜ (r ≡ dimensionsBelow (now (s .entry)) n) × (r ≤ 65536) ⌝ }
 {
     let mut e = directory::first_entry(s);
@@ -35,7 +35,7 @@ fn dimension_total(s: &[u8], n: u64) -> u64
 
 // Puts the record of dimension j of tile k, whose entry stands at e, into row r.
 fn put_dimension(s: &[u8], k: u64, e: u64, j: u64, r: u64, numbers: &mut [u64], starts: &mut [i32])
-    requires { ⌜ TileAt (now s) k e × (j < dimensionCount (now s) e) × (r < 65536) ⌝ }
+    requires { ⌜ AcceptedFile (now s) × TileAt (now s) k e × (j < dimensionCount (now s) e) × (r < 65536) ⌝ }
     requires { ⌜ RowRoom 5 1 (r + 1) (now numbers) (now starts) ⌝ }
     ensures { λ _. ⌜ DimensionPut (now (s .entry)) k j r (now (numbers .entry)) (now (starts .entry)) (now (numbers .exit)) (now (starts .exit)) ⌝ }
 {
@@ -56,7 +56,7 @@ fn put_dimensions_of(
     numbers: &mut [u64],
     starts: &mut [i32],
 )
-    requires { ⌜ TileAt (now s) k e × (c ≡ dimensionCount (now s) e) × (r + c ≤ 65536) ⌝ }
+    requires { ⌜ AcceptedFile (now s) × TileAt (now s) k e × (c ≡ dimensionCount (now s) e) × (r + c ≤ 65536) ⌝ }
     requires { ⌜ RowRoom 5 1 (r + c) (now numbers) (now starts) ⌝ }
     ensures { λ _. ⌜ DimensionsPut (now (s .entry)) k c r (now (numbers .entry)) (now (starts .entry)) (now (numbers .exit)) (now (starts .exit)) ⌝ }
 {
@@ -69,9 +69,9 @@ fn put_dimensions_of(
 
 // Puts the records of all dimensions of the n tiles of an accepted file.
 fn put_dimensions(s: &[u8], n: u64, numbers: &mut [u64], starts: &mut [i32])
-    requires { ⌜ (verdict (scanOf (now s)) ≡ Accepted) × (n ≡ tileCount (now s)) ⌝ }
+    requires { ⌜ AcceptedFile (now s) × (n ≡ tileCount (now s)) ⌝ }
     requires { ⌜ RowRoom 5 1 (dimensionsBelow (now s) n) (now numbers) (now starts) ⌝ }
-    ensures { λ _. ⌜ DimensionTable (scanOf (now (s .entry))) n (now (numbers .entry)) (now (starts .entry)) (now (numbers .exit)) (now (starts .exit)) ⌝ }
+    ensures { λ _. ⌜ DimensionTable (now (s .entry)) (dimensionOf (now (s .entry))) n (now (numbers .entry)) (now (starts .entry)) (now (numbers .exit)) (now (starts .exit)) ⌝ }
 {
     let mut e = directory::first_entry(s);
     let mut r: u64 = 0;
@@ -86,13 +86,13 @@ fn put_dimensions(s: &[u8], n: u64, numbers: &mut [u64], starts: &mut [i32])
     }
 }
 
-// Every dimension record: 5 numbers and a signed one a dimension, tile by tile in directory order. Refused, 22 where an array is too short, it
-// changes neither.
-pub fn dimensions(s: &[u8], numbers: &mut [u64], starts: &mut [i32]) -> Table
-    ensures { λ r. ⌜ TableAnswered (dimensionsVerdict (scanOf (now (s .entry))) (length (now (numbers .entry))) (length (now (starts .entry)))) (dimensionTotal (scanOf (now (s .entry)))) r ⌝ }
-    ensures { λ _. ⌜ DimensionArrays (scanOf (now (s .entry))) (now (numbers .entry)) (now (starts .entry)) (now (numbers .exit)) (now (starts .exit)) ⌝ }
+// Every dimension record under a release: 5 numbers and a signed one a dimension, tile by tile in directory order. Refused, 22 where an array is
+// too short, it changes neither.
+pub fn dimensions(s: &[u8], release: Release, numbers: &mut [u64], starts: &mut [i32]) -> Table
+    ensures { λ r. ⌜ TableAnswered (dimensionsVerdict (scanOf (now (s .entry)) release) (length (now (numbers .entry))) (length (now (starts .entry)))) (dimensionTotal (scanOf (now (s .entry)) release)) r ⌝ }
+    ensures { λ _. ⌜ DimensionArrays (scanOf (now (s .entry)) release) (now (numbers .entry)) (now (starts .entry)) (now (numbers .exit)) (now (starts .exit)) ⌝ }
 {
-    let v = judge::judge(s);
+    let v = judge::judge(s, release);
     match v {
         Verdict::Refused { number, place } => Table {
             verdict: Verdict::Refused { number, place },

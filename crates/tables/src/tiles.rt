@@ -3,6 +3,7 @@ use crate::numbers::tile_numbers;
 use crate::numbers::tile_starts;
 use crate::rows::put_numbers;
 use crate::rows::put_starts;
+use format::Release;
 use format::Tile;
 use format::Verdict;
 ghost use mathlib.Core.Path.{_≡_};
@@ -40,12 +41,12 @@ pub fn too_short(n: u64, w: u64, v: u64, numbers: usize, starts: usize) -> bool
 }
 
 // The record of tile k of an accepted file, whose entry stands at e.
-fn tile_of(s: &[u8], k: u64, e: u64) -> Tile
-    requires { ⌜ TileAt (now s) k e ⌝ }
-    ensures { λ r. ⌜ r ≡ tileRecord (scanOf (now (s .entry))) k ⌝ }
+fn tile_of(s: &[u8], release: Release, k: u64, e: u64) -> Tile
+    requires { ⌜ (verdict (scanOf (now s) release) ≡ Accepted) × TileAt (now s) k e ⌝ }
+    ensures { λ r. ⌜ r ≡ tileRecord (scanOf (now (s .entry)) release) k ⌝ }
 {
     let q = entries::file_position(s, e);
-    subblocks::tile_at(k, s, e, s, q)
+    subblocks::tile_at(k, s, e, s, q, release)
 }
 
 // Puts a record's numbers into row k.
@@ -67,36 +68,37 @@ fn put_tile_starts(t: Tile, k: u64, starts: &mut [i32])
 }
 
 // Puts the record of tile k, whose entry stands at e, into row k.
-fn put_tile(s: &[u8], k: u64, e: u64, numbers: &mut [u64], starts: &mut [i32])
-    requires { ⌜ TileAt (now s) k e × RowRoom 22 3 (k + 1) (now numbers) (now starts) ⌝ }
-    ensures { λ _. ⌜ TilePut (now (s .entry)) k (now (numbers .entry)) (now (starts .entry)) (now (numbers .exit)) (now (starts .exit)) ⌝ }
+fn put_tile(s: &[u8], release: Release, k: u64, e: u64, numbers: &mut [u64], starts: &mut [i32])
+    requires { ⌜ (verdict (scanOf (now s) release) ≡ Accepted) × TileAt (now s) k e ⌝ }
+    requires { ⌜ RowRoom 22 3 (k + 1) (now numbers) (now starts) ⌝ }
+    ensures { λ _. ⌜ TilePut (scanOf (now (s .entry)) release) k (now (numbers .entry)) (now (starts .entry)) (now (numbers .exit)) (now (starts .exit)) ⌝ }
 {
-    let t = tile_of(s, k, e);
+    let t = tile_of(s, release, k, e);
     put_tile_numbers(t, k, numbers);
     put_tile_starts(t, k, starts);
 }
 
 // Puts the records of the n tiles of an accepted file.
-fn put_tiles(s: &[u8], n: u64, numbers: &mut [u64], starts: &mut [i32])
-    requires { ⌜ (verdict (scanOf (now s)) ≡ Accepted) × (n ≡ tileCount (now s)) ⌝ }
+fn put_tiles(s: &[u8], release: Release, n: u64, numbers: &mut [u64], starts: &mut [i32])
+    requires { ⌜ (verdict (scanOf (now s) release) ≡ Accepted) × (n ≡ tileCount (now s)) ⌝ }
     requires { ⌜ RowRoom 22 3 n (now numbers) (now starts) ⌝ }
-    ensures { λ _. ⌜ TileTable (scanOf (now (s .entry))) (now (numbers .entry)) (now (starts .entry)) (now (numbers .exit)) (now (starts .exit)) ⌝ }
+    ensures { λ _. ⌜ TileTable (scanOf (now (s .entry)) release) (now (numbers .entry)) (now (starts .entry)) (now (numbers .exit)) (now (starts .exit)) ⌝ }
 {
     let mut e = directory::first_entry(s);
     let mut k: u64 = 0;
     while k < n {
-        put_tile(s, k, e, numbers, starts);
+        put_tile(s, release, k, e, numbers, starts);
         e = entries::next_entry(s, e);
         k += 1;
     }
 }
 
-// Every tile record: 22 numbers and 3 signed ones a tile, in directory order. Refused, 22 where an array is too short, it changes neither.
-pub fn tiles(s: &[u8], numbers: &mut [u64], starts: &mut [i32]) -> Table
-    ensures { λ r. ⌜ TableAnswered (tilesVerdict (scanOf (now (s .entry))) (length (now (numbers .entry))) (length (now (starts .entry)))) (tileCount (now (s .entry))) r ⌝ }
-    ensures { λ _. ⌜ TileArrays (scanOf (now (s .entry))) (now (numbers .entry)) (now (starts .entry)) (now (numbers .exit)) (now (starts .exit)) ⌝ }
+// Every tile record under a release: 22 numbers and 3 signed ones a tile, in directory order. Refused, 22 where an array is too short, it changes neither.
+pub fn tiles(s: &[u8], release: Release, numbers: &mut [u64], starts: &mut [i32]) -> Table
+    ensures { λ r. ⌜ TableAnswered (tilesVerdict (scanOf (now (s .entry)) release) (length (now (numbers .entry))) (length (now (starts .entry)))) (tileCount (now (s .entry))) r ⌝ }
+    ensures { λ _. ⌜ TileArrays (scanOf (now (s .entry)) release) (now (numbers .entry)) (now (starts .entry)) (now (numbers .exit)) (now (starts .exit)) ⌝ }
 {
-    let v = judge::judge(s);
+    let v = judge::judge(s, release);
     match v {
         Verdict::Refused { number, place } => Table {
             verdict: Verdict::Refused { number, place },
@@ -113,7 +115,7 @@ pub fn tiles(s: &[u8], numbers: &mut [u64], starts: &mut [i32]) -> Table
                     rows: 0,
                 };
             }
-            put_tiles(s, n, numbers, starts);
+            put_tiles(s, release, n, numbers, starts);
             Table {
                 verdict: Verdict::Accepted,
                 rows: n,

@@ -14,6 +14,7 @@ use Rattle.format.specs.Entry.{pixelType, pixelBytes, size, stored, letterPlace
 use Rattle.format.specs.SubBlock.{attachmentSize, pixelsPlace, attachmentPlace, pixelsSize}
 use Rattle.format.specs.Masks.{hasChunks, maskWidth, maskHeight, maskStride, maskShape, maskFrom, maskByte, maskValid}
 use Rattle.format.specs.Records.{maskOf}
+use Rattle.format.specs.declared.Release.{Release}
 use Rattle.format.specs.declared.MaskShape.{MaskShape}
 use Rattle.format.specs.declared.TileMask.{TileMask}
 use Rattle.format.specs.declared.TileMask.the-variants.{Unmasked, Masked}
@@ -30,14 +31,14 @@ use Rattle.turns.specs.TileOf.{validIn, tileOf as turnsTile}
 use Rattle.turns.specs.Turned.{kindOf, TurnRoom, Turned}
 use Rattle.turns.specs.declared.Mask.{Mask}
 use Rattle.tiles.specs.FileTile.{rankOf, rectangle, unmasked, entryTile}
-use Rattle.tiles.specs.Painted.{TileRoom, PaintRoom, Painted, LinesRoom, TurnedBehind}
+use Rattle.tiles.specs.Painted.{TileRoom, PaintRoom, Painted, PaintedOpen, PaintedMasked, Lined, LinesRoom, TurnedBehind}
 use Rattle.tiles.proofs.Rectangles.{rectangle-edges}
 
 -- ---- equal tiles
 
-module _ (ds : List ℕ) (e : ℕ) (bs : List ℕ) (q k : ℕ) where
+module _ (ds : List ℕ) (e : ℕ) (bs : List ℕ) (q k : ℕ) (rel : Release) where
   -- masks on and off are the same where there is no mask
-  open-tile : maskOf ds e bs q ≡ Unmasked → entryTile ds false k e bs q ≡ entryTile ds true k e bs q
+  open-tile : maskOf ds e bs q rel ≡ Unmasked → entryTile ds false k e bs q rel ≡ entryTile ds true k e bs q rel
   unfolding entryTile
   open-tile h i = record {
     rank = rankOf ds k e;
@@ -50,8 +51,8 @@ module _ (ds : List ℕ) (e : ℕ) (bs : List ℕ) (q k : ℕ) where
   }
 
   -- the mask m of these lines says of each pixel what the tile's own says
-  same-tile : (on : Bool) (m : Mask) (lines : List ℕ) → ((x y : ℕ) → validIn m lines x y ≡ (not on || unmasked bs (maskOf ds e bs q) x y))
-      → turnsTile (rankOf ds k e) (rectangle ds e) (pixelBytes (pixelType ds e)) (drop (pixelsPlace ds e bs q) bs) m lines ≡ entryTile ds on k e bs q
+  same-tile : (on : Bool) (m : Mask) (lines : List ℕ) → ((x y : ℕ) → validIn m lines x y ≡ (not on || unmasked bs (maskOf ds e bs q rel) x y))
+      → turnsTile (rankOf ds k e) (rectangle ds e) (pixelBytes (pixelType ds e)) (drop (pixelsPlace ds e bs q) bs) m lines ≡ entryTile ds on k e bs q rel
   unfolding entryTile turnsTile
   same-tile on m lines h i = record {
     rank = rankOf ds k e;
@@ -88,11 +89,6 @@ rest n bs = take-all (length bs - n) (drop n bs) (rw length-drop (omega arith))
 
 -- ---- the mask of a judged sub-block lies in the file
 
-pub record Lined (bs : List ℕ) (c : ℕ) (shape : MaskShape) : Type 0 where
-  pub shape-is : shape ≡ maskShape bs c
-  pub columns : shape .width ≤ 8 * shape .stride
-  pub lines : c + 36 + shape .height * shape .stride ≤ length bs
-
 mask-in : (bs : List ℕ) (end c : ℕ) (shape : MaskShape) → end ≤ length bs → MaskIn bs end c shape → Lined bs c shape
 unfolding maskShape
 mask-in bs end c shape h i =
@@ -105,74 +101,82 @@ mask-in bs end c shape h i =
       lines = rw (i .dimensions, mul-comm (maskHeight bs c) (maskStride bs c)) (omega (arith, f .lines, i .within));
     }
 
-module _ {ds : List ℕ} {e : ℕ} {bs : List ℕ} {q : ℕ} where
-  pub mask-lined : {c : ℕ} {shape : MaskShape} → Judged ds e bs q → maskOf ds e bs q ≡ Masked c shape → Lined bs c shape
+module _ {ds : List ℕ} {e : ℕ} {bs : List ℕ} {q : ℕ} {rel : Release} where
+  mask-lined : {c : ℕ} {shape : MaskShape} → Judged ds e bs q rel → maskOf ds e bs q rel ≡ Masked c shape → Lined bs c shape
   unfolding maskOf
-  mask-lined {c} {shape} j h = go (hasChunks ds e bs q) refl h
+  mask-lined {c} {shape} j h = go (hasChunks ds e bs q rel) refl h
     where
       end : ℕ
       end = attachmentPlace ds e bs q + attachmentSize bs q
 
-      go : (b : Bool) → hasChunks ds e bs q ≡ b → cond b (maskFrom (attachmentSize bs q) bs end (attachmentPlace ds e bs q)) Unmasked ≡ Masked c shape
+      go : (b : Bool) → hasChunks ds e bs q rel ≡ b → cond b (maskFrom (attachmentSize bs q) bs end (attachmentPlace ds e bs q)) Unmasked ≡ Masked c shape
           → Lined bs c shape
       go true y h =
           mask-in bs end c shape (filled-in ds e bs q (j .filled) .attachment)
-          (mask-ok (attachmentSize bs q) bs _ false (attachmentPlace ds e bs q) c shape (container-chunks ds e bs q y (j .attachment)) h)
+          (mask-ok (attachmentSize bs q) bs _ false (attachmentPlace ds e bs q) c shape (container-chunks ds e bs q rel y (j .attachment)) h)
       go false y h = let z : _≡_ {A = ℕ} 0 1 = cc in absurd (omega arith)
 
-  -- its lines begin in the file
-  pub lines-in : {c : ℕ} {shape : MaskShape} → Judged ds e bs q → maskOf ds e bs q ≡ Masked c shape → c + 36 ≤ length bs
-  lines-in j h = omega (arith, mask-lined j h .lines)
+  -- as it was read, where masks are on, as a test showed
+  pub mask-read : {t m : List ℕ} {on : Bool} {w : Rect} {c : ℕ} {shape : MaskShape} (k : TileMask) → PaintRoom t m ds e bs q rel on w → not on ≡ false
+      → k ≡ maskOf ds e bs q rel → k ≡ Masked c shape → Lined bs c shape
+  mask-read k p o h f = mask-lined (p .judged (not-false _ o)) (sym h ∙ f)
+
+-- its lines begin in the file
+pub lines-in : {bs : List ℕ} {c : ℕ} {shape : MaskShape} → Lined bs c shape → c + 36 ≤ length bs
+lines-in l = omega (arith, l .lines)
 
 -- masks are on, as a test showed
-pub judged-on : {t m ds : List ℕ} {e : ℕ} {bs : List ℕ} {q : ℕ} {on : Bool} {w : Rect} → PaintRoom t m ds e bs q on w → not on ≡ false → Judged ds e bs q
+pub judged-on : {t m ds : List ℕ} {e : ℕ} {bs : List ℕ} {q : ℕ} {rel : Release} {on : Bool} {w : Rect} → PaintRoom t m ds e bs q rel on w → not on ≡ false
+    → Judged ds e bs q rel
 judged-on p h = p .judged (not-false _ h)
 
 -- ---- a turn with a mask given by its lines
 
 module _ {t m ds : List ℕ} {e : ℕ} {bs : List ℕ} {q : ℕ} {w : Rect} {quick : Bool} {t′ m′ : List ℕ} {r : ℕ} where
   -- what is painted of a tile is painted of an equal one
-  painted-behind : (on : Bool) (k : Mask) (lines : List ℕ) → ((x y : ℕ) → validIn k lines x y ≡ (not on || unmasked bs (maskOf ds e bs q) x y))
-      → TurnedBehind t m ds e bs q w k lines quick t′ m′ r → Painted t m ds e bs q on w quick t′ m′ r
-  painted-behind on k lines h d = record {
+  painted-behind : (rel : Release) (on : Bool) (k : Mask) (lines : List ℕ)
+      → ((x y : ℕ) → validIn k lines x y ≡ (not on || unmasked bs (maskOf ds e bs q rel) x y))
+      → TurnedBehind t m ds e bs q w k lines quick t′ m′ r → Painted t m ds e bs q rel on w quick t′ m′ r
+  painted-behind rel on k lines h d = record {
     painted = λ n stored.
         d .behind .turned (rankOf ds n e) stored
         ∙ ap (λ (z : Tile). turn (kindOf quick) w (pixelBytes (pixelType ds e)) z (record { target = t; map = m; stored = stored }))
-        (same-tile ds e bs q n on k lines h);
+        (same-tile ds e bs q n rel on k lines h);
   }
 
-  -- masks are off, or on, as a test showed
-  pub painted-off : {on : Bool} → not on ≡ true → Painted t m ds e bs q false w quick t′ m′ r → Painted t m ds e bs q on w quick t′ m′ r
-  painted-off {on} h d = rw (not-true on h) d
-
-  pub painted-on : {on : Bool} → not on ≡ false → Painted t m ds e bs q true w quick t′ m′ r → Painted t m ds e bs q on w quick t′ m′ r
-  painted-on {on} h d = rw (not-false on h) d
+  -- masks are off, as a test showed
+  pub painted-off : {rel : Release} {on : Bool} → not on ≡ true → PaintedOpen t m ds e bs q w quick t′ m′ r → Painted t m ds e bs q rel on w quick t′ m′ r
+  painted-off {rel} {on} h d = rw (not-true on h) (d rel)
 
   -- with a mask that is off
   pub painted-open : (k : Mask) (lines : List ℕ) → k .on ≡ false → TurnedBehind t m ds e bs q w k lines quick t′ m′ r
-      → Painted t m ds e bs q false w quick t′ m′ r
+      → PaintedOpen t m ds e bs q w quick t′ m′ r
   unfolding validIn
-  painted-open k lines o d = painted-behind false k lines (λ x y. rw o) d
+  painted-open k lines o d rel = painted-behind rel false k lines (λ x y. rw o) d
 
-  -- masks are on and the tile has none, as was read
-  pub painted-unmasked : {on : Bool} (k : TileMask) → k ≡ maskOf ds e bs q → k ≡ Unmasked → not on ≡ false
-      → Painted t m ds e bs q false w quick t′ m′ r → Painted t m ds e bs q on w quick t′ m′ r
-  painted-unmasked k h u o d =
-      painted-on o
+  -- masks are on, as a test showed, and the tile has none, as was read
+  pub painted-unmasked : {rel : Release} {on : Bool} (k : TileMask) → k ≡ maskOf ds e bs q rel → k ≡ Unmasked → not on ≡ false
+      → PaintedOpen t m ds e bs q w quick t′ m′ r → Painted t m ds e bs q rel on w quick t′ m′ r
+  painted-unmasked {rel} {on} k h u o d =
+      rw (not-false on o)
       (record {
         painted = λ n stored.
-            d .painted n stored
+            d rel .painted n stored
             ∙ ap (λ (z : Tile). turn (kindOf quick) w (pixelBytes (pixelType ds e)) z (record { target = t; map = m; stored = stored }))
-            (open-tile ds e bs q n (sym h ∙ u));
+            (open-tile ds e bs q n rel (sym h ∙ u));
       })
 
+  -- or it has one
+  pub painted-read : {rel : Release} {on : Bool} {c : ℕ} {shape : MaskShape} (k : TileMask) → k ≡ maskOf ds e bs q rel → k ≡ Masked c shape → not on ≡ false
+      → PaintedMasked t m ds e bs q c shape w quick t′ m′ r → Painted t m ds e bs q rel on w quick t′ m′ r
+  painted-read {rel} {on} k h f o d = rw (not-false on o) (d rel (sym h ∙ f))
+
   -- with the mask of the chunk at c, whose lines begin at n
-  pub painted-masked : {c : ℕ} {shape : MaskShape} (n : ℕ) → Judged ds e bs q → maskOf ds e bs q ≡ Masked c shape → n ≡ c + 36
-      → TurnedBehind t m ds e bs q w (maskWith shape) (take (length bs - n) (drop n bs)) quick t′ m′ r → Painted t m ds e bs q true w quick t′ m′ r
-  painted-masked {c} {shape} n j h p d =
-      let s = mask-lined j h .shape-is in
-      painted-behind true (maskWith shape) (take (length bs - n) (drop n bs))
-      (λ x y. rw (rest n bs, p, s, h) (valid-lines bs c x y))
+  pub painted-masked : {c : ℕ} {shape : MaskShape} (n : ℕ) → Lined bs c shape → n ≡ c + 36
+      → TurnedBehind t m ds e bs q w (maskWith shape) (take (length bs - n) (drop n bs)) quick t′ m′ r → PaintedMasked t m ds e bs q c shape w quick t′ m′ r
+  painted-masked {c} {shape} n l p d rel h =
+      painted-behind rel true (maskWith shape) (take (length bs - n) (drop n bs))
+      (λ x y. rw (rest n bs, p, l .shape-is, h) (valid-lines bs c x y))
       d
 
 -- ---- the pixels of a judged sub-block lie in the file

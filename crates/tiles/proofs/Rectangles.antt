@@ -8,6 +8,7 @@ use mathlib.Core.Bool.{Bool, true, false, _&&_, and-false, true≢false}
 use lib.Dec.{leb, ltb}
 use lib.ListN.{length}
 use borrow.Author.Tests.{lt-ltb, le-ltb, leb-true, ltb-true}
+use Rattle.format.specs.declared.Release.{Release}
 use Rattle.format.specs.Bytes.{biased}
 use Rattle.format.specs.Entry.{start, size, letterPlace}
 use Rattle.format.proofs.Below.{and-both}
@@ -94,10 +95,10 @@ covers-meets a w p h l e =
     meeting a w (omega arith) (omega arith) (omega arith) (omega arith)
 
 -- a tile that does not meet the window gives none of its pixels
-pub gives-none : (ds : List ℕ) (on : Bool) (k e : ℕ) (bs : List ℕ) (q : ℕ) (w : Rect) → meets (rectangle ds e) w ≡ false → 1 ≤ w .width → (p : ℕ) → p < area w
-    → givesAt w (entryTile ds on k e bs q) p ≡ false
+pub gives-none : (ds : List ℕ) (on : Bool) (k e : ℕ) (bs : List ℕ) (q : ℕ) (rel : Release) (w : Rect) → meets (rectangle ds e) w ≡ false → 1 ≤ w .width
+    → (p : ℕ) → p < area w → givesAt w (entryTile ds on k e bs q rel) p ≡ false
 unfolding entryTile
-gives-none ds on k e bs q w m h p l =
+gives-none ds on k e bs q rel w m h p l =
     by-bool (covers (rectangle ds e) (colOf w p) (rowOf w p))
     (λ c. absurd (true≢false (covers-meets (rectangle ds e) w p h l c ∙ m)))
     (λ c. rw c)

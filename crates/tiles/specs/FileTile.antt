@@ -12,6 +12,7 @@ use Rattle.format.specs.Entry.{pixelType, pixelBytes, dimensionCount, start, si
 use Rattle.format.specs.SubBlock.{pixelsPlace}
 use Rattle.format.specs.Masks.{maskValid}
 use Rattle.format.specs.Records.{maskOf, tileEntry, tileFile, tilePosition}
+use Rattle.format.specs.declared.Release.{Release}
 use Rattle.format.specs.declared.TileMask.{TileMask}
 use Rattle.format.specs.declared.TileMask.the-variants.{Unmasked, Masked}
 use Rattle.plane.specs.Tiles.{Tile, covers}
@@ -45,18 +46,18 @@ abbrev pub unmasked : List ℕ → TileMask → ℕ → ℕ → Bool
 unmasked bs Unmasked x y = true
 unmasked bs (Masked c shape) x y = maskValid bs c x y
 
--- the tile of entry k, which stands at e of the file ds, its sub-block at q of the file bs; masks on or off
-unfoldable pub entryTile : List ℕ → Bool → ℕ → ℕ → List ℕ → ℕ → Tile
-entryTile ds on k e bs q = record {
+-- the tile of entry k, which stands at e of the file ds, its sub-block at q of the file bs; masks on or off; under a release
+unfoldable pub entryTile : List ℕ → Bool → ℕ → ℕ → List ℕ → ℕ → Release → Tile
+entryTile ds on k e bs q r = record {
   rank = rankOf ds k e;
-  gives = λ u v. covers (rectangle ds e) u v && (not on || unmasked bs (maskOf ds e bs q) (u - rectangle ds e .left) (v - rectangle ds e .top));
+  gives = λ u v. covers (rectangle ds e) u v && (not on || unmasked bs (maskOf ds e bs q r) (u - rectangle ds e .left) (v - rectangle ds e .top));
   byte = λ u v j.
       getD bs (pixelsPlace ds e bs q + (((v - rectangle ds e .top) * rectangle ds e .width + (u - rectangle ds e .left)) * pixelBytes (pixelType ds e) + j)) 0;
 }
 
 -- the tile of entry k of a scan
 unfoldable pub fileTile : Choice → ℕ → Tile
-fileTile ch k = entryTile (ch .scan .file) (ch .masks) k (tileEntry (ch .scan) k) (tileFile (ch .scan) k) (tilePosition (ch .scan) k)
+fileTile ch k = entryTile (ch .scan .file) (ch .masks) k (tileEntry (ch .scan) k) (tileFile (ch .scan) k) (tilePosition (ch .scan) k) (ch .scan .release)
 
 -- the tiles of the entries below n that `chosen` takes, painted as ch says
 unfoldable pub tilesBelow : ℕ → Choice → (ℕ → Bool) → List Tile

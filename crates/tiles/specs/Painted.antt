@@ -6,6 +6,11 @@ use mathlib.Core.Bool.{Bool, true, false}
 use lib.ListN.{length, drop}
 use Rattle.format.specs.Entry.{pixelType, pixelBytes, isPyramid}
 use Rattle.format.specs.SubBlock.{pixelsPlace}
+use Rattle.format.specs.Masks.{maskShape}
+use Rattle.format.specs.Records.{maskOf}
+use Rattle.format.specs.declared.Release.{Release}
+use Rattle.format.specs.declared.MaskShape.{MaskShape}
+use Rattle.format.specs.declared.TileMask.the-variants.{Masked}
 use Rattle.subblocks.specs.Judged.{Filled, Judged}
 use Rattle.plane.specs.declared.Rect.{Rect}
 use Rattle.plane.specs.Turns.{Painting, turn}
@@ -22,16 +27,30 @@ pub record TileRoom (t m ds : List ℕ) (e : ℕ) (bs : List ℕ) (q : ℕ) (w :
   pub right : w .left + w .width < 2 ^ 64
   pub bottom : w .top + w .height < 2 ^ 64
 
--- besides, where masks are on, the tile's chunks are judged
-pub record PaintRoom (t m ds : List ℕ) (e : ℕ) (bs : List ℕ) (q : ℕ) (on : Bool) (w : Rect) : Type 0 where
+-- besides, where masks are on, the tile's chunks were judged under the release rel and are right
+pub record PaintRoom (t m ds : List ℕ) (e : ℕ) (bs : List ℕ) (q : ℕ) (rel : Release) (on : Bool) (w : Rect) : Type 0 where
   pub tile : TileRoom t m ds e bs q w
-  pub judged : on ≡ true → Judged ds e bs q
+  pub judged : on ≡ true → Judged ds e bs q rel
 
 -- target, map and store count after the turn are what the definition of a turn says of the entry's tile, whatever its number k and the store count before
-pub record Painted (t m ds : List ℕ) (e : ℕ) (bs : List ℕ) (q : ℕ) (on : Bool) (w : Rect) (quick : Bool) (t′ m′ : List ℕ) (r : ℕ) : Type 0 where
+pub record Painted (t m ds : List ℕ) (e : ℕ) (bs : List ℕ) (q : ℕ) (rel : Release) (on : Bool) (w : Rect) (quick : Bool) (t′ m′ : List ℕ) (r : ℕ) : Type 0 where
   pub painted : (k stored : ℕ)
       → _≡_ {A = Painting} (record { target = t′; map = m′; stored = stored + r })
-      (turn (kindOf quick) w (pixelBytes (pixelType ds e)) (entryTile ds on k e bs q) (record { target = t; map = m; stored = stored }))
+      (turn (kindOf quick) w (pixelBytes (pixelType ds e)) (entryTile ds on k e bs q rel) (record { target = t; map = m; stored = stored }))
+
+-- the same with masks off, under any release
+abbrev pub PaintedOpen : List ℕ → List ℕ → List ℕ → ℕ → List ℕ → ℕ → Rect → Bool → List ℕ → List ℕ → ℕ → Type 0
+PaintedOpen t m ds e bs q w quick t′ m′ r = (rel : Release) → Painted t m ds e bs q rel false w quick t′ m′ r
+
+-- the same with the mask of the chunk at c, under any release that says that this is the tile's mask
+abbrev pub PaintedMasked : List ℕ → List ℕ → List ℕ → ℕ → List ℕ → ℕ → ℕ → MaskShape → Rect → Bool → List ℕ → List ℕ → ℕ → Type 0
+PaintedMasked t m ds e bs q c shape w quick t′ m′ r = (rel : Release) → maskOf ds e bs q rel ≡ Masked c shape → Painted t m ds e bs q rel true w quick t′ m′ r
+
+-- the mask of the chunk at c lies in the file bs, its columns in its lines
+pub record Lined (bs : List ℕ) (c : ℕ) (shape : MaskShape) : Type 0 where
+  pub shape-is : shape ≡ maskShape bs c
+  pub columns : shape .width ≤ 8 * shape .stride
+  pub lines : c + 36 + shape .height * shape .stride ≤ length bs
 
 -- ---- the same, with the mask given by its dimensions and its lines
 

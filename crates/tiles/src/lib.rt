@@ -1,18 +1,16 @@
 // The tile of an entry as a composer sees it: its rank, its rectangle, and one turn of it.
 // The entry stands at e of the slice d, its sub-block at q of the slice s.
 use format::MaskShape;
+use format::Release;
 use format::TileMask;
 use plane::Rect;
 use turns::Mask;
 ghost use mathlib.Core.Path.{_≡_};
-ghost use mathlib.Core.Bool.{true, false};
 ghost use Prim.Native.Nat.{_+_, _<_, _^_};
 ghost use Rattle.format.specs.Entry.{pixelType, pixelBytes};
-ghost use Rattle.format.specs.Records.{maskOf};
-ghost use Rattle.format.specs.declared.TileMask.the-variants.{Masked};
-ghost use Rattle.subblocks.specs.Judged.{Listed, Judged};
+ghost use Rattle.subblocks.specs.Judged.{Listed};
 ghost use Rattle.tiles.specs.FileTile.{rankOf, rectangle, meets};
-ghost use Rattle.tiles.specs.Painted.{TileRoom, PaintRoom, Painted, LinesRoom, TurnedBehind};
+ghost use Rattle.tiles.specs.Painted.{TileRoom, PaintRoom, Painted, PaintedOpen, PaintedMasked, Lined, LinesRoom, TurnedBehind};
 
 // The rank of the tile of entry number k: by M, and at a tie by the entry's number.
 pub fn rank_of(d: &[u8], k: u64, e: u64) -> u64
@@ -107,7 +105,7 @@ fn paint_entry_open(
     quick: bool,
 ) -> usize
     requires { ⌜ TileRoom (now target) (now map) (now d) e (now s) q w ⌝ }
-    ensures { λ r. ⌜ Painted (now (target .entry)) (now (map .entry)) (now (d .entry)) e (now (s .entry)) q false w quick (now (target .exit)) (now (map .exit)) r ⌝ }
+    ensures { λ r. ⌜ PaintedOpen (now (target .entry)) (now (map .entry)) (now (d .entry)) e (now (s .entry)) q w quick (now (target .exit)) (now (map .exit)) r ⌝ }
 {
     let k = Mask {
         on: false,
@@ -118,7 +116,7 @@ fn paint_entry_open(
     paint_behind(target, map, d, e, s, q, w, k, b"", quick)
 }
 
-// One turn of the tile, whose mask is in the chunk at place.
+// One turn of the tile with the mask in the chunk at place.
 fn paint_entry_masked(
     target: &mut [u8],
     map: &mut [u8],
@@ -131,9 +129,8 @@ fn paint_entry_masked(
     shape: MaskShape,
     quick: bool,
 ) -> usize
-    requires { ⌜ TileRoom (now target) (now map) (now d) e (now s) q w ⌝ }
-    requires { ⌜ Judged (now d) e (now s) q × (maskOf (now d) e (now s) q ≡ Masked place shape) ⌝ }
-    ensures { λ r. ⌜ Painted (now (target .entry)) (now (map .entry)) (now (d .entry)) e (now (s .entry)) q true w quick (now (target .exit)) (now (map .exit)) r ⌝ }
+    requires { ⌜ TileRoom (now target) (now map) (now d) e (now s) q w × Lined (now s) place shape ⌝ }
+    ensures { λ r. ⌜ PaintedMasked (now (target .entry)) (now (map .entry)) (now (d .entry)) e (now (s .entry)) q place shape w quick (now (target .exit)) (now (map .exit)) r ⌝ }
 {
     let k = Mask {
         on: true,
@@ -145,7 +142,7 @@ fn paint_entry_masked(
     paint_behind(target, map, d, e, s, q, w, k, &s[from..], quick)
 }
 
-// One turn of the tile in the window w, masks on or off. The result is what it adds to the store count.
+// One turn of the tile in the window w, under a release, masks on or off. The result is what it adds to the store count.
 pub fn paint_entry(
     target: &mut [u8],
     map: &mut [u8],
@@ -153,17 +150,18 @@ pub fn paint_entry(
     e: u64,
     s: &[u8],
     q: u64,
+    release: Release,
     w: Rect,
     on: bool,
     quick: bool,
 ) -> usize
-    requires { ⌜ PaintRoom (now target) (now map) (now d) e (now s) q on w ⌝ }
-    ensures { λ r. ⌜ Painted (now (target .entry)) (now (map .entry)) (now (d .entry)) e (now (s .entry)) q on w quick (now (target .exit)) (now (map .exit)) r ⌝ }
+    requires { ⌜ PaintRoom (now target) (now map) (now d) e (now s) q release on w ⌝ }
+    ensures { λ r. ⌜ Painted (now (target .entry)) (now (map .entry)) (now (d .entry)) e (now (s .entry)) q release on w quick (now (target .exit)) (now (map .exit)) r ⌝ }
 {
     if !on {
         return paint_entry_open(target, map, d, e, s, q, w, quick);
     }
-    let mask = subblocks::mask_of(d, e, s, q);
+    let mask = subblocks::mask_of(d, e, s, q, release);
     match mask {
         TileMask::Unmasked => {
             return paint_entry_open(target, map, d, e, s, q, w, quick);

@@ -3,7 +3,7 @@
 use crate::mosaic::{grid, named_often, Mosaic, TileMask};
 use crate::probe;
 use crate::timing::{least, time, Rounds, Side};
-use czi::{calls, PixelType};
+use czi::{calls, PixelType, Release, Scan};
 use std::hint::black_box;
 use std::time::Duration;
 
@@ -13,11 +13,24 @@ pub fn judge(mask: TileMask, rounds: Rounds) -> [Duration; 2] {
     let library = |_: &mut ()| time(|| czi::judge(black_box(&file)).expect("an accepted file"));
     let reference = |_: &mut ()| {
         time(|| {
-            let accepted = black_box(reference::judge(black_box(&file))).is_ok();
-            assert!(accepted, "an accepted file");
+            let release = reference::Release::V1_2;
+            let judged = black_box(reference::judge(black_box(&file), release));
+            assert!(judged.is_ok(), "an accepted file");
         })
     };
     least(rounds, &mut (), [&library, &reference])
+}
+
+/// Judges 4,096 tiles, each with a mask, by release 1.02 and by 1.2.
+pub fn judge_by_release(rounds: Rounds) -> [Duration; 2] {
+    let tiles = grid(64, 16, 16, TileMask::AllValid);
+    let file = Mosaic::new(PixelType::Gray8, &tiles, 4094).bytes;
+    let judge = |release| {
+        let scan = Scan::new(&file).release(release);
+        move |_: &mut ()| time(|| czi::judge(black_box(scan)).expect("an accepted file"))
+    };
+    let (older, newer) = (judge(Release::V1_02), judge(Release::V1_2));
+    least(rounds, &mut (), [&older, &newer])
 }
 
 /// Judges a sub-block with 4 MiB of metadata that 4,096 entries name, and the same that one entry names.
@@ -83,9 +96,10 @@ pub fn records(rounds: Rounds) -> [Duration; 2] {
     let all = |tables: &mut Tables| {
         time(|| {
             let (numbers, starts) = &mut tables.tiles;
-            let tiles = calls::tiles(black_box(&file), numbers, starts);
+            let tiles = calls::tiles(black_box(&file), calls::RELEASE_1_2, numbers, starts);
             let (numbers, starts) = &mut tables.dimensions;
-            let dimensions = calls::dimensions(black_box(&file), numbers, starts);
+            let release = calls::RELEASE_1_2;
+            let dimensions = calls::dimensions(black_box(&file), release, numbers, starts);
             assert_eq!((tiles.number, tiles.value), (0, TILES as u64));
             let rows = (LETTERS * TILES) as u64;
             assert_eq!((dimensions.number, dimensions.value), (0, rows));

@@ -30,13 +30,13 @@ pub struct Call {
 impl Call {
     /// The quick composer, masks on, on a background whose bytes differ.
     pub const QUICK: Call = Call {
-        composer: compose_quick,
+        composer: |file, question, target, map| compose_quick(file, question, target, map),
         masks: Masks::On,
         background: [1, 2, 3, 4, 5, 6],
     };
     /// The plain composer.
     pub const PLAIN: Call = Call {
-        composer: compose_plain,
+        composer: |file, question, target, map| compose_plain(file, question, target, map),
         ..Call::QUICK
     };
     /// The quick composer, masks off.

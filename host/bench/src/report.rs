@@ -132,6 +132,9 @@ impl Report {
         if all {
             self.others
                 .push(line("each with a mask", TileMask::AllValid));
+            let [older, newer] = leaves::judge_by_release(rounds);
+            let measure = "judge of 4,096 tiles, each with a mask, by 1.02 / by 1.2";
+            self.others.push(Line::new(measure, older, newer));
             let [often, once] = leaves::judge_named_often(rounds);
             let measure = "judge of a sub-block that 4,096 entries name / that one names";
             self.others.push(Line::new(measure, often, once));

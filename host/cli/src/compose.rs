@@ -10,8 +10,9 @@ use crate::outputs::{look, Output};
 use crate::plane::Plane;
 use crate::question::Question;
 use crate::window::{Cut, Window};
-use crate::{memory, pbm, streams, types};
+use crate::{memory, pbm, release, streams, types};
 use czi::calls::{self, Counted, Plain};
+use czi::Scan;
 use std::ffi::OsString;
 use std::path::{Path, PathBuf};
 
@@ -22,6 +23,7 @@ const TAKES: Takes = Takes {
         "--type",
         "--scene",
         "--masks",
+        release::OPTION,
         "--background",
         "--composer",
         "--out",
@@ -49,6 +51,7 @@ struct Places {
 pub fn run(words: Vec<OsString>) -> Result<Answer, Failure> {
     let arguments = Arguments::parse(words, &TAKES)?;
     let question = Question::parse(&arguments)?;
+    let release = release::parse(&arguments)?;
     let composer = composer(&arguments)?;
     let (out, map) = (arguments.path("--out"), arguments.path("--map"));
     let given: Vec<&Path> = out.iter().chain(&map).map(PathBuf::as_path).collect();
@@ -67,7 +70,7 @@ pub fn run(words: Vec<OsString>) -> Result<Answer, Failure> {
     let files = look(&files, arguments.flag("--force"), Some(&input))?;
     let places = Places { out, map, files };
     let (sinks, lines) = input.reading(|file| {
-        let plane = Plane::new(file, &question, false)?;
+        let plane = Plane::new(Scan::new(file).release(release), &question, false)?;
         compose(&plane, composer, &places)
     })?;
     finish(sinks, lines)
@@ -155,17 +158,17 @@ fn paint(
         let part = cut.part(number);
         let question = plane.plain(part, pixel_type, &background);
         if composer != Composer::Quick {
-            let counted = buffers.compose(plane.file, &question, calls::compose_plain)?;
+            let counted = buffers.compose(plane, &question, calls::compose_plain)?;
             sums.plain += counted.stored;
             sums.covered += counted.covered;
         }
         if composer == Composer::Quick {
-            let counted = buffers.compose(plane.file, &question, calls::compose_quick)?;
+            let counted = buffers.compose(plane, &question, calls::compose_quick)?;
             sums.quick += counted.stored;
             sums.covered += counted.covered;
         }
         if let Some(others) = &mut others {
-            let counted = others.compose(plane.file, &question, calls::compose_quick)?;
+            let counted = others.compose(plane, &question, calls::compose_quick)?;
             sums.quick += counted.stored;
             if buffers != *others {
                 return Err(Failure::Other("the composers do not agree".to_string()));
@@ -181,7 +184,7 @@ fn paint(
     Ok((vec![out, map], sums))
 }
 
-type Call = fn(&[u8], &Plain, &mut [u8], &mut [u8]) -> calls::Answer<Counted>;
+type Call = fn(&[u8], u32, &Plain, &mut [u8], &mut [u8]) -> calls::Answer<Counted>;
 
 /// Target and map for one part, and what was covered of it.
 #[derive(PartialEq, Eq)]
@@ -200,8 +203,9 @@ impl Buffers {
         })
     }
 
-    fn compose(&mut self, file: &[u8], question: &Plain, call: Call) -> Result<Counted, Failure> {
-        let counted = call(file, question, &mut self.target, &mut self.map).result()?;
+    fn compose(&mut self, plane: &Plane, question: &Plain, call: Call) -> Result<Counted, Failure> {
+        let (file, release) = plane.lent();
+        let counted = call(file, release, question, &mut self.target, &mut self.map).result()?;
         self.covered = counted.covered;
         Ok(counted)
     }

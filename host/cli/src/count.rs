@@ -11,8 +11,8 @@ use crate::plane::Plane;
 use crate::progress::Progress;
 use crate::question::Question;
 use crate::window::{Cut, Window};
-use crate::{memory, types};
-use czi::{calls, PixelType};
+use crate::{memory, release, types};
+use czi::{calls, PixelType, Scan};
 use std::ffi::OsString;
 use std::sync::atomic::{AtomicBool, AtomicU64, AtomicUsize, Ordering::SeqCst};
 use std::sync::{Barrier, Mutex};
@@ -20,7 +20,14 @@ use std::thread;
 
 const TAKES: Takes = Takes {
     flags: &[],
-    values: &["--window", "--type", "--scene", "--masks", "--jobs"],
+    values: &[
+        "--window",
+        "--type",
+        "--scene",
+        "--masks",
+        release::OPTION,
+        "--jobs",
+    ],
     many: &["--start"],
 };
 
@@ -39,9 +46,13 @@ const FEW: u64 = 8;
 pub fn run(words: Vec<OsString>) -> Result<Answer, Failure> {
     let arguments = Arguments::parse(words, &TAKES)?;
     let question = Question::parse(&arguments)?;
+    let release = release::parse(&arguments)?;
     let jobs = jobs(&arguments)?;
     let input = Input::open(&arguments.only_path("FILE")?)?;
-    let lines = input.reading(|file| count(&Plane::new(file, &question, true)?, jobs))?;
+    let lines = input.reading(|file| {
+        let scan = Scan::new(file).release(release);
+        count(&Plane::new(scan, &question, true)?, jobs)
+    })?;
     Ok(Answer::lines(lines))
 }
 
@@ -187,7 +198,8 @@ impl Shared<'_> {
             return Ok(0);
         }
         let question = self.plane.plain(part, self.pixel_type, background);
-        let answer = calls::compose_quick(self.plane.file, &question, target, map);
+        let (file, release) = self.plane.lent();
+        let answer = calls::compose_quick(file, release, &question, target, map);
         Ok(answer.result()?.covered)
     }
 

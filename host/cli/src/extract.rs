@@ -5,8 +5,8 @@ use crate::arguments::{number, Arguments, Takes};
 use crate::failure::Failure;
 use crate::input::Input;
 use crate::outputs::look;
-use crate::streams;
-use czi::Refusal;
+use crate::{release, streams};
+use czi::{Refusal, Scan};
 use std::ffi::OsString;
 use std::path::Path;
 
@@ -19,7 +19,7 @@ const TAKES: Takes = Takes {
         "--xml-attachment",
         "--force",
     ],
-    values: &["--tile", "--attachment", "--out"],
+    values: &["--tile", "--attachment", "--out", release::OPTION],
     many: &[],
 };
 
@@ -37,6 +37,7 @@ enum Part {
 pub fn run(words: Vec<OsString>) -> Result<Answer, Failure> {
     let arguments = Arguments::parse(words, &TAKES)?;
     let part = Part::parse(&arguments)?;
+    let release = release::parse(&arguments)?;
     let missing = || Failure::Usage("--out is missing".to_string());
     let out = arguments.path("--out").ok_or_else(missing)?;
     let input = Input::open(&arguments.only_path("FILE")?)?;
@@ -49,7 +50,7 @@ pub fn run(words: Vec<OsString>) -> Result<Answer, Failure> {
     };
     let files = look(&files, arguments.flag("--force"), Some(&input))?;
     let (sink, lines) = input.reading(|file| {
-        let bytes = part.of(file)?;
+        let bytes = part.of(Scan::new(file).release(release))?;
         let mut sink = Sink::begin(Some(&out), &mut files.iter(), bytes.len() as u64)?;
         sink.write(bytes)?;
         Ok((sink, format!("bytes={}\n", bytes.len())))
@@ -80,14 +81,14 @@ impl Part {
         }
     }
 
-    fn of<'a>(&self, file: &'a [u8]) -> Result<&'a [u8], Refusal> {
+    fn of<'a>(&self, scan: Scan<'a>) -> Result<&'a [u8], Refusal> {
         match *self {
-            Part::Pixels(tile) => czi::tile_pixels(file, tile),
-            Part::Metadata(tile) => czi::tile_metadata(file, tile),
-            Part::TileAttachment(tile) => czi::tile_attachment(file, tile),
-            Part::Xml => czi::common_xml(file),
-            Part::XmlAttachment => czi::common_attachment(file),
-            Part::Attachment(attachment) => czi::attachment_data(file, attachment),
+            Part::Pixels(tile) => czi::tile_pixels(scan, tile),
+            Part::Metadata(tile) => czi::tile_metadata(scan, tile),
+            Part::TileAttachment(tile) => czi::tile_attachment(scan, tile),
+            Part::Xml => czi::common_xml(scan),
+            Part::XmlAttachment => czi::common_attachment(scan),
+            Part::Attachment(attachment) => czi::attachment_data(scan, attachment),
         }
     }
 }

@@ -19,8 +19,10 @@ usage: czi judge FILE      is the file accepted?
        czi --version
 
 FILE may be - for standard input. A plain file is mapped, so it may be larger than
-memory; a pipe is read into memory. A value follows its option as the next word or
-behind =, and what follows a single -- is no option.
+memory; a pipe is read into memory. It is judged by release 1.2 of the format, or,
+where it was archived under 1.02, by that with --release 1.02, which each command
+with a FILE takes. A value follows its option as the next word or behind =, and
+what follows a single -- is no option.
 
 A file that is there is replaced only with --force, never where its mode has no
 write bit, and never where it is the file that is read. Files are written under
@@ -37,23 +39,28 @@ any other.
 ";
 
 const LIST: &str = "\
-usage: czi list FILE
+usage: czi list FILE [--release 1.02|1.2]
 
 Prints the text that the program list prints: five lines, bytes=, segments=,
 tiles=, attachments= and box=, or, where the file is refused, refused= and
 place=; 30 for a file of over 65,536 bytes. A refusal is an answer here, so the
 exit code is 0 for it too, as that of the program list is; czi judge exits 2.
+~
+The program list judges by release 1.2 always.
 ";
 
 const INFO: &str = "\
-usage: czi info FILE [--json]
+usage: czi info FILE [--json] [--release 1.02|1.2]
 
 Prints, of a file of any size:
   bytes= segments= tiles= attachments=
   box=left,top,right,bottom   over the tiles that are no pyramid tiles; right and
                               bottom exclusive; none where there is no such tile
+  release=                    by which the file was judged, 1.2 or 1.02
   pyramid_tiles=              tiles stored in another size, which no plane shows
-  masked_tiles=               tiles with a mask, which --masks on looks at
+  masked_tiles=               tiles with a mask, which --masks on looks at; where
+                              there is none under 1.2, no count depends on the
+                              release
   type= tiles=                for each pixel type, in the order of the directory
   scene= tiles= pyramid_tiles= box=
                               for each start of S, if any tile has S; a tile
@@ -71,10 +78,11 @@ Prints, of a file of any size:
                               escaped. Bytes that are no UTF-8 are shown as
                               U+FFFD
 With --json the same as one object. Exits 2 where the file is refused.
+~
 ";
 
 const TILES: &str = "\
-usage: czi tiles FILE [--json]
+usage: czi tiles FILE [--json] [--release 1.02|1.2]
 
 Prints a line a tile, in the order of the directory:
   tile=       its number, counted from 0
@@ -84,13 +92,17 @@ Prints a line a tile, in the order of the directory:
   C= S= ..    the start of each other letter that it has
   pyramid=    yes where it is stored in another size: no plane shows it
   mask=       width and height of its mask as 25x16, or none
-With --json an array of objects. Exits 2 where the file is refused.
+With --json an array of objects, each with the release too. Exits 2 where the
+file is refused.
+~
 ";
 
 const JUDGE: &str = "\
-usage: czi judge FILE
+usage: czi judge FILE [--release 1.02|1.2]
 
 Prints accepted, or exits 2 and says the refusal.
+~
+Unless 1.2 gives 17 or 18, both give the same number and place.
 ";
 
 const SAMPLE: &str = "\
@@ -102,7 +114,7 @@ to standard output.
 ";
 
 const EXTRACT: &str = "\
-usage: czi extract FILE PART --out PATH [--force]
+usage: czi extract FILE PART --out PATH [--force] [--release 1.02|1.2]
 
 Writes the very bytes of a part of the file. PART is one of
   --tile N --pixels            the pixels of a tile, as they are stored
@@ -113,8 +125,9 @@ Writes the very bytes of a part of the file. PART is one of
   --attachment N               the data of an attachment
 N counts from 0, as in czi tiles and czi info; a number that the file does not
 have is refused as 24.
-  --out PATH   where to; - is standard output
-  --force      replaces a file that is there
+  --out PATH         where to; - is standard output
+  --force            replaces a file that is there
+~
 Prints bytes=, how many they are, with --out - on standard error.
 ";
 
@@ -136,11 +149,23 @@ const QUESTION: &str =
                      --start S=N; 0 unless given
   --masks on|off     leave out the pixels that a tile's mask calls invalid;
                      off unless asked for
+~
+";
+
+/// What every command with a file takes.
+const RELEASE: &str =
+    "  --release 1.02|1.2 by which release of the format the file is judged; 1.2 unless
+                     given. 1.02 has no chunk containers: the attachment of
+                     every tile is plain bytes, 17 and 18 are never given, no
+                     tile has a mask, and masks on is the same as masks off.
+                     Choose it for a file that was archived under 1.02 and for
+                     no other, whose masks would be forgotten. No byte of the
+                     file says it: it is known from whoever archived it
 ";
 
 const COUNT: &str = "\
 usage: czi count FILE [--window L,T,W,H] [--type T] [--start C=1 ..]
-           [--scene any|N] [--masks on|off] [--jobs N]
+           [--scene any|N] [--masks on|off] [--release 1.02|1.2] [--jobs N]
 
 Prints how many pixels of a window are covered by a tile; no file is written.
 Without options that is scene 0, start 0 of all other letters, and masks off; for
@@ -156,16 +181,17 @@ Those that no selected tile meets have no covered pixel and are not composed.
 Prints covered=, pixels= (of the whole window), windows= (into how many it was
 cut, which depends on the jobs; the counts do not), and a line with what was
 chosen: tiles= (of the file), selected= (of these), meet= (of these, how many
-share a pixel with the window), masks=, scene=, the starts that are not 0, type=
-(none where none is given and the file has no tile), window=. A file without a box
-covers nothing. A run of more than a second shows how far it is where standard
-error is a terminal.
+share a pixel with the window), release= (1.2 or 1.02), masks=, scene=, the
+starts that are not 0, type= (none where none is given and the file has no tile),
+window=. A file without a box covers nothing. A run of more than a second shows
+how far it is where standard error is a terminal.
 ";
 
 const COMPOSE: &str = "\
 usage: czi compose FILE [--out plane.raw] [--map map.pbm] [--window L,T,W,H]
            [--type T] [--start C=1 ..] [--scene any|N] [--masks on|off]
-           [--background HEX] [--composer plain|quick|both] [--force]
+           [--release 1.02|1.2] [--background HEX]
+           [--composer plain|quick|both] [--force]
 
 Composes a window of the plane; its sides are 1 to 65,536.
 
@@ -183,16 +209,20 @@ One of --out and --map may be - for standard output; the lines that follow go to
 standard error then. Without either, nothing is written but these lines:
 pixels=, covered=, stored= (how many pixels were stored from tiles), and a line
 with what was chosen: tiles= (of the file), selected= (of these), meet= (of these,
-how many share a pixel with the window), masks=, scene=, the starts that are not
-0, type=, window=. The plane is composed by windows of whole rows, so that at most
-512 MiB are taken; what goes to standard output is held in memory until all of it
-is there.
+how many share a pixel with the window), release= (1.2 or 1.02), masks=,
+scene=, the starts that are not 0, type=, window=. The plane is composed by
+windows of whole rows, so that at most 512 MiB are taken; what goes to standard
+output is held in memory until all of it is there.
 ";
 
 /// The commands.
 pub const COMMANDS: [&str; 8] = [
     "judge", "info", "tiles", "count", "compose", "extract", "list", "sample",
 ];
+
+/// What to do about 17 and 18. The older release is no way round them.
+const REWRITE_MASKS: &str = "whoever wrote the masks writes them again; only a file that was \
+    archived under release 1.02 is judged by it, and the masks of any other would be forgotten";
 
 /// What to do about each refusal.
 const ADVICE: [(u32, &str); 24] = [
@@ -230,8 +260,8 @@ const ADVICE: [(u32, &str); 24] = [
         "some tool changed the one and not the other: save it anew, and look which is right",
     ),
     (16, "damaged: copy it again"),
-    (17, "whoever wrote the masks writes them again"),
-    (18, "whoever wrote the masks writes them again"),
+    (17, REWRITE_MASKS),
+    (18, REWRITE_MASKS),
     (
         20,
         "compose: cut the window, and count is for windows of any size",
@@ -299,7 +329,7 @@ pub fn text(command: Option<&str>) -> Option<String> {
         Some("refusals") => return Some(refusals()),
         Some(_) => return None,
     };
-    Some(text.replace("@\n", QUESTION))
+    Some(text.replace("@\n", QUESTION).replace("~\n", RELEASE))
 }
 
 /// The text for the words behind `help`.

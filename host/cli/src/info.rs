@@ -5,23 +5,24 @@ use crate::arguments::{Arguments, Takes};
 use crate::failure::Failure;
 use crate::input::Input;
 use crate::records::starts;
-use crate::types;
 use crate::words::quoted;
-use czi::{Attachment, Edges, Record, Summary};
+use crate::{release, types};
+use czi::{Attachment, Edges, Record, Release, Scan, Summary};
 use std::collections::BTreeMap;
 use std::ffi::OsString;
 
 const TAKES: Takes = Takes {
     flags: &["--json"],
-    values: &[],
+    values: &[release::OPTION],
     many: &[],
 };
 
 /// Answers the lines, or the same as JSON.
 pub fn run(words: Vec<OsString>) -> Result<Answer, Failure> {
     let arguments = Arguments::parse(words, &TAKES)?;
+    let release = release::parse(&arguments)?;
     let input = Input::open(&arguments.only_path("FILE")?)?;
-    let info = input.reading(Info::of)?;
+    let info = input.reading(|file| Info::of(Scan::new(file).release(release)))?;
     Ok(Answer::lines(match arguments.flag("--json") {
         false => info.lines(),
         true => info.json(),
@@ -46,6 +47,8 @@ struct Range {
 
 struct Info {
     summary: Summary,
+    /// By which the file was judged.
+    release: Release,
     /// Types in the order of the directory, and how many tiles have each.
     types: Vec<(&'static str, u64)>,
     pyramid_tiles: usize,
@@ -58,9 +61,9 @@ struct Info {
 }
 
 impl Info {
-    fn of(file: &[u8]) -> Result<Info, Failure> {
-        let summary = czi::summary(file)?;
-        let all: Vec<Record> = czi::all_records(file)?.collect();
+    fn of(scan: Scan) -> Result<Info, Failure> {
+        let summary = czi::summary(scan)?;
+        let all: Vec<Record> = czi::all_records(scan)?.collect();
         let pyramid = |record: &&Record| record.tile.is_pyramid_tile();
         Ok(Info {
             types: types_of(&all),
@@ -68,7 +71,8 @@ impl Info {
             masked_tiles: all.iter().filter(|r| r.tile.mask.is_some()).count(),
             scenes: scenes_of(&all),
             letters: letters_of(&all),
-            attachments: czi::attachments(file)?,
+            attachments: czi::attachments(scan)?,
+            release: scan.release,
             summary,
         })
     }
@@ -85,6 +89,7 @@ impl Info {
             "bytes={bytes}\nsegments={segments}\ntiles={tiles}\nattachments={attachments}\nbox={}\n",
             said(edges)
         );
+        lines += &format!("release={}\n", self.release);
         lines += &format!("pyramid_tiles={}\n", self.pyramid_tiles);
         lines += &format!("masked_tiles={}\n", self.masked_tiles);
         for (name, tiles) in &self.types {
@@ -116,7 +121,7 @@ impl Info {
         lines
     }
 
-    /// The same; names of types, letters and GUIDs need no escapes.
+    /// The same; names of releases, types, letters and GUIDs need no escapes.
     fn json(&self) -> String {
         let types = self.types.iter();
         let types = types.map(|(name, tiles)| format!("{{\"type\":\"{name}\",\"tiles\":{tiles}}}"));
@@ -158,6 +163,7 @@ impl Info {
             ("segments", segments.to_string()),
             ("tiles", tiles.to_string()),
             ("box", object(edges)),
+            ("release", format!("\"{}\"", self.release)),
             ("pyramid_tiles", self.pyramid_tiles.to_string()),
             ("masked_tiles", self.masked_tiles.to_string()),
             ("types", array(types)),

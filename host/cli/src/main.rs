@@ -26,6 +26,7 @@ mod progress;
 mod question;
 mod records;
 mod refused;
+mod release;
 mod sample;
 mod staged;
 mod streams;
@@ -37,15 +38,16 @@ mod words;
 
 use answer::Answer;
 use arguments::{Arguments, Takes};
+use czi::Scan;
 use failure::Failure;
 use input::Input;
 use std::ffi::OsString;
 use std::process::ExitCode;
 
-/// A command that takes a path and no option.
+/// A command that takes a path and a release.
 const PATH_ONLY: Takes = Takes {
     flags: &[],
-    values: &[],
+    values: &[release::OPTION],
     many: &[],
 };
 
@@ -84,11 +86,11 @@ fn run(mut words: Vec<OsString>) -> Result<Answer, Failure> {
 /// Runs one of the commands.
 fn run_command(name: &str, words: Vec<OsString>) -> Result<Answer, Failure> {
     match name {
-        "judge" => read(words, |file| {
-            czi::judge(file)?;
+        "judge" => read(words, |scan| {
+            czi::judge(scan)?;
             Ok("accepted\n".to_string())
         }),
-        "list" => read(words, |file| Ok(czi::list(file))),
+        "list" => read(words, |scan| Ok(czi::list(scan))),
         "info" => info::run(words),
         "tiles" => tiles::run(words),
         "count" => count::run(words),
@@ -106,9 +108,11 @@ fn version() -> String {
 /// A command that reads a file and says some lines of it.
 fn read(
     words: Vec<OsString>,
-    lines: impl FnOnce(&[u8]) -> Result<String, Failure>,
+    lines: impl FnOnce(Scan) -> Result<String, Failure>,
 ) -> Result<Answer, Failure> {
     let arguments = Arguments::parse(words, &PATH_ONLY)?;
+    let release = release::parse(&arguments)?;
     let input = Input::open(&arguments.only_path("FILE")?)?;
-    input.reading(lines).map(Answer::lines)
+    let lines = input.reading(|file| lines(Scan::new(file).release(release)))?;
+    Ok(Answer::lines(lines))
 }

@@ -6,7 +6,7 @@ use crate::refused::{explain, Asked};
 use crate::types;
 use crate::window::Window;
 use czi::calls::{self, ChosenCounts, Plain};
-use czi::{PixelType, Reason, Refusal, Summary, Tile};
+use czi::{PixelType, Reason, Refusal, Scan, Summary, Tile};
 
 /// The mark of a selected tile that shares a pixel with the window.
 const MEETS: u8 = 2;
@@ -21,8 +21,8 @@ const ONE_PIXEL: Window = Window {
 
 /// A file and what is asked of it.
 pub struct Plane<'a> {
-    /// The file.
-    pub file: &'a [u8],
+    /// The file, and by which release it is judged.
+    pub scan: Scan<'a>,
     /// The question.
     pub question: &'a Question,
     /// Its figures.
@@ -39,15 +39,16 @@ pub struct Plane<'a> {
 
 impl<'a> Plane<'a> {
     /// Judges the file; a window of any sides is allowed where it is cut.
-    pub fn new(file: &'a [u8], question: &'a Question, is_cut: bool) -> Result<Self, Failure> {
-        let summary = czi::summary(file)?;
+    pub fn new(scan: Scan<'a>, question: &'a Question, is_cut: bool) -> Result<Self, Failure> {
+        let summary = czi::summary(scan)?;
         let window = question.window.or(summary.edges.as_ref().map(Window::of));
         let mut marks = vec![0; summary.tiles as usize];
         // Without a window: one that no tile meets.
         let asked = question.plain(window.unwrap_or_default(), 0, &[]);
-        let chosen = calls::chosen(file, &asked, &mut marks).result()?;
+        let release = scan.release.number();
+        let chosen = calls::chosen(scan.file, release, &asked, &mut marks).result()?;
         Ok(Plane {
-            file,
+            scan,
             question,
             summary,
             window,
@@ -55,6 +56,11 @@ impl<'a> Plane<'a> {
             chosen,
             side: if is_cut { u32::MAX } else { 65_536 },
         })
+    }
+
+    /// File and release as the library takes them.
+    pub fn lent(&self) -> (&'a [u8], u32) {
+        (self.scan.file, self.scan.release.number())
     }
 
     /// The background for that type: as given, or zeros.
@@ -73,7 +79,8 @@ impl<'a> Plane<'a> {
     pub fn is_met(&self, part: Window) -> Result<bool, Failure> {
         let mut marks = vec![0; self.marks.len()];
         let asked = self.plain(part, 0, &[]);
-        let chosen = calls::chosen(self.file, &asked, &mut marks).result()?;
+        let (file, release) = self.lent();
+        let chosen = calls::chosen(file, release, &asked, &mut marks).result()?;
         Ok(chosen.meeting != 0)
     }
 
@@ -82,7 +89,7 @@ impl<'a> Plane<'a> {
     /// refused whatever is lent is refused here, and then 23 of the whole window, at
     /// the first tile of another type in the directory, however it is cut later.
     pub fn pixel_type(&self) -> Result<Option<u32>, Failure> {
-        let tiles: Vec<Tile> = czi::tiles(self.file)?.collect();
+        let tiles: Vec<Tile> = czi::tiles(self.scan)?.collect();
         let marked = tiles.iter().zip(&self.marks);
         let meeting = marked.filter(|(_, mark)| **mark == MEETS);
         let mut meeting = meeting.map(|(tile, _)| tile);
@@ -123,7 +130,8 @@ impl<'a> Plane<'a> {
         };
         for part in ends {
             let question = self.plain(part, pixel_type, background);
-            let answer = calls::compose_quick(self.file, &question, &mut [], &mut []);
+            let (file, release) = self.lent();
+            let answer = calls::compose_quick(file, release, &question, &mut [], &mut []);
             match answer.result() {
                 Err(refusal) if refusal.reason != Reason::Lent => {
                     return Err(self.explained(window, pixel_type, refusal.into()));
@@ -142,18 +150,20 @@ impl<'a> Plane<'a> {
             pixel_type,
             background: self.background(pixel_type).len(),
         };
-        explain(self.file, &asked, failure)
+        explain(self.scan, &asked, failure)
     }
 
-    /// The line that says what was chosen.
+    /// The line that says what was chosen; the release always, so that one that was
+    /// forgotten is seen.
     pub fn chosen(&self, pixel_type: Option<u32>) -> String {
         let listed = pixel_type.and_then(|number| PixelType::of_number(number.into()));
         let named = listed.map_or("none", types::name);
         let window = self.window.map_or("none".to_string(), |w| w.to_string());
         let (tiles, question) = (self.summary.tiles, self.question);
         let ChosenCounts { selected, meeting } = self.chosen;
+        let release = self.scan.release;
         format!(
-            "tiles={tiles} selected={selected} meet={meeting} {question} type={named} window={window}\n"
+            "tiles={tiles} selected={selected} meet={meeting} release={release} {question} type={named} window={window}\n"
         )
     }
 }

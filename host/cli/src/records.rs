@@ -1,6 +1,6 @@
 //! What is asked of a tile's record.
 
-use czi::{Record, Tile};
+use czi::{Record, Scan, Tile};
 
 /// The starts of a tile's letters but X, Y and M, as the entry has them.
 pub fn starts(record: &Record) -> impl Iterator<Item = (char, i32)> + '_ {
@@ -10,6 +10,6 @@ pub fn starts(record: &Record) -> impl Iterator<Item = (char, i32)> + '_ {
 }
 
 /// The tile whose entry stands at that place.
-pub fn at(file: &[u8], place: u64) -> Option<Tile> {
-    czi::tiles(file).ok()?.find(|tile| tile.place == place)
+pub fn at(scan: Scan, place: u64) -> Option<Tile> {
+    czi::tiles(scan).ok()?.find(|tile| tile.place == place)
 }

@@ -5,7 +5,7 @@ use crate::failure::Failure;
 use crate::records;
 use crate::types;
 use crate::window::Window;
-use czi::{PixelType, Reason, Refusal};
+use czi::{PixelType, Reason, Refusal, Scan};
 
 /// What was asked for.
 #[derive(Clone, Copy)]
@@ -21,7 +21,7 @@ pub struct Asked {
 }
 
 /// Adds to a refusal of 20 to 23 what it is about.
-pub fn explain(file: &[u8], asked: &Asked, failure: Failure) -> Failure {
+pub fn explain(scan: Scan, asked: &Asked, failure: Failure) -> Failure {
     let Failure::Refused(refusal, None) = failure else {
         return failure;
     };
@@ -35,7 +35,7 @@ pub fn explain(file: &[u8], asked: &Asked, failure: Failure) -> Failure {
         Reason::Window => window(asked),
         Reason::AskedType => pixel(asked),
         Reason::Lent => Some("the command lent too little".to_string()),
-        Reason::AnotherType => tile(file, asked, &refusal),
+        Reason::AnotherType => tile(scan, asked, &refusal),
         _ => None,
     };
     Failure::Refused(refusal, more)
@@ -71,8 +71,8 @@ fn pixel(asked: &Asked) -> Option<String> {
     ))
 }
 
-fn tile(file: &[u8], asked: &Asked, refusal: &Refusal) -> Option<String> {
-    let tile = records::at(file, refusal.place)?;
+fn tile(scan: Scan, asked: &Asked, refusal: &Refusal) -> Option<String> {
+    let tile = records::at(scan, refusal.place)?;
     let name = PixelType::of_number(asked.pixel_type.into()).map(types::name)?;
     let (entry, has) = (tile.entry, types::name(tile.pixel_type));
     Some(format!("tile {entry} has {has}, asked for is {name}"))
@@ -94,7 +94,8 @@ mod tests {
             pixel_type: 0,
             background: 1,
         };
-        let line = |asked: &Asked| explain(&[], asked, Refusal::new(20, 0).into()).to_string();
+        let line =
+            |asked: &Asked| explain(Scan::new(&[]), asked, Refusal::new(20, 0).into()).to_string();
         let words = "refused 20 at 0: a side of the window is 0, or an edge is past 2,147,483,647";
         assert_eq!(line(&asked), format!("{words} (the height is 0)"));
         asked.side = 65_536;
@@ -108,7 +109,7 @@ mod tests {
             pixel_type,
             background,
         };
-        explain(&[], &asked, Refusal::new(number, 0).into()).to_string()
+        explain(Scan::new(&[]), &asked, Refusal::new(number, 0).into()).to_string()
     }
 
     #[test]

@@ -5,25 +5,29 @@ use crate::arguments::{Arguments, Takes};
 use crate::failure::Failure;
 use crate::input::Input;
 use crate::records::starts;
-use crate::types;
-use czi::Record;
+use crate::{release, types};
+use czi::{Record, Release, Scan};
 use std::ffi::OsString;
 
 const TAKES: Takes = Takes {
     flags: &["--json"],
-    values: &[],
+    values: &[release::OPTION],
     many: &[],
 };
 
 /// Answers the lines, or the same as JSON.
 pub fn run(words: Vec<OsString>) -> Result<Answer, Failure> {
     let arguments = Arguments::parse(words, &TAKES)?;
+    let release = release::parse(&arguments)?;
     let input = Input::open(&arguments.only_path("FILE")?)?;
-    let all: Vec<Record> = input.reading(|file| Ok(czi::all_records(file)?.collect()))?;
+    let all: Vec<Record> = input.reading(|file| {
+        let scan = Scan::new(file).release(release);
+        Ok(czi::all_records(scan)?.collect())
+    })?;
     let lines = match arguments.flag("--json") {
         false => all.iter().map(line).collect(),
         true => {
-            let objects: Vec<String> = all.iter().map(object).collect();
+            let objects: Vec<String> = all.iter().map(|record| object(record, release)).collect();
             format!("[{}]\n", objects.join(",\n"))
         }
     };
@@ -50,8 +54,8 @@ fn line(record: &Record) -> String {
     )
 }
 
-/// The same; names and letters need no escapes.
-fn object(record: &Record) -> String {
+/// The same, and the release; names and letters need no escapes.
+fn object(record: &Record, release: Release) -> String {
     let tile = &record.tile;
     let m = tile.m.map_or("null".to_string(), |m| m.to_string());
     let starts: Vec<String> = starts(record)
@@ -63,7 +67,7 @@ fn object(record: &Record) -> String {
     };
     format!(
         "{{\"tile\":{},\"type\":\"{}\",\"x\":{},\"y\":{},\"width\":{},\"height\":{},\"m\":{m},\
-         \"starts\":{{{}}},\"pyramid\":{},\"mask\":{mask}}}",
+         \"starts\":{{{}}},\"pyramid\":{},\"mask\":{mask},\"release\":\"{release}\"}}",
         tile.entry,
         types::name(tile.pixel_type),
         tile.x.start,

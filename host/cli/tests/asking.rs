@@ -26,9 +26,11 @@ fn a_line_a_tile() {
     let json = prints(&["tiles", "--json", &file]);
     let second =
         "{\"tile\":1,\"type\":\"gray8\",\"x\":118,\"y\":60,\"width\":24,\"height\":16,\"m\":1,\
-        \"starts\":{\"C\":0,\"S\":0},\"pyramid\":false,\"mask\":{\"width\":24,\"height\":16}}";
+        \"starts\":{\"C\":0,\"S\":0},\"pyramid\":false,\"mask\":{\"width\":24,\"height\":16},\
+        \"release\":\"1.2\"}";
     assert_eq!(json.lines().nth(1), Some(&*format!("{second},")));
-    assert!(json.starts_with("[{\"tile\":0,") && json.ends_with("\"mask\":null}]\n"));
+    let ending = "\"mask\":null,\"release\":\"1.2\"}]\n";
+    assert!(json.starts_with("[{\"tile\":0,") && json.ends_with(ending));
     let pyramids = prints(&["tiles", &sample("pyramids.czi")]);
     assert_eq!(
         pyramids.matches(" m=none pyramid=yes mask=none\n").count(),
@@ -78,7 +80,8 @@ fn figures_that_explain_a_count() {
     );
     let lines = prints(&["info", &file]);
     let (_, more) = lines.split_once("box=-50,-60,10,5\n").expect(&lines);
-    let wanted = "pyramid_tiles=0\nmasked_tiles=0\ntype=gray8 tiles=2\ntype=gray16 tiles=1\n\
+    let wanted = "release=1.2\npyramid_tiles=0\nmasked_tiles=0\n\
+                  type=gray8 tiles=2\ntype=gray16 tiles=1\n\
                   scene=0 tiles=2 pyramid_tiles=0 box=0,0,10,5\n\
                   scene=3 tiles=1 pyramid_tiles=0 box=-50,-60,-40,-40\n\
                   letter=S tiles=3 least=0 greatest=3\n";
@@ -94,7 +97,8 @@ fn figures_that_explain_a_count() {
         assert!(json.contains(part), "{part} in {json}");
     }
     let none = prints(&["info", &sample("pyramids.czi")]);
-    assert!(none.contains("box=none\npyramid_tiles=2\nmasked_tiles=0\ntype=gray8 tiles=2\n"));
+    let figures = "box=none\nrelease=1.2\npyramid_tiles=2\nmasked_tiles=0\ntype=gray8 tiles=2\n";
+    assert!(none.contains(figures), "{none}");
     let json = prints(&["info", &sample("mosaic.czi"), "--json"]);
     let attachment = "{\"attachment\":0,\"bytes\":40,\"type\":\"CZTIMS\",\
                       \"guid\":\"{13121110-1514-1716-1819-1A1B1C1D1E1F}\",\"name\":\"TimeStamps\"}";
@@ -148,7 +152,8 @@ fn only_a_mask_that_its_section_declares_hides_pixels() {
 fn a_count_is_that_of_the_composer() {
     let file = sample("mosaic.czi");
     let chosen = |masks: &str| {
-        format!("tiles=4 selected=4 meet=4 masks={masks} scene=0 type=gray8 window=100,60,43,28\n")
+        let found = "tiles=4 selected=4 meet=4 release=1.2";
+        format!("{found} masks={masks} scene=0 type=gray8 window=100,60,43,28\n")
     };
     let counted = prints(&["count", &file]);
     let wanted = format!("covered=1174\npixels=1204\nwindows=1\n{}", chosen("off"));
@@ -166,8 +171,8 @@ fn a_count_is_that_of_the_composer() {
         "--start",
         "C=0",
     ]);
-    let chosen =
-        "tiles=4 selected=0 meet=0 masks=off scene=any Z=-4 type=gray8 window=100,60,43,28\n";
+    let chosen = "tiles=4 selected=0 meet=0 release=1.2 masks=off scene=any Z=-4 type=gray8 \
+                  window=100,60,43,28\n";
     assert!(
         counted.starts_with("covered=0\n") && counted.ends_with(chosen),
         "{counted}"
@@ -222,7 +227,7 @@ fn what_is_selected_and_what_meets_the_window() {
         for command in ["count", "compose"] {
             let lines = prints(&[&[command, &file], more].concat());
             let last = lines.lines().last().unwrap();
-            let wanted = format!("tiles=4 {counts} masks=off scene=");
+            let wanted = format!("tiles=4 {counts} release=1.2 masks=off scene=");
             assert!(last.starts_with(&wanted), "{more:?}: {last}");
         }
     }
@@ -280,7 +285,7 @@ fn a_file_without_a_box_covers_nothing() {
     for (name, tiles, found) in types {
         let file = sample(name);
         let wanted = |named: &str| {
-            let chosen = "selected=0 meet=0 masks=off scene=0";
+            let chosen = "selected=0 meet=0 release=1.2 masks=off scene=0";
             let counts = "covered=0\npixels=0\nwindows=0";
             format!("{counts}\ntiles={tiles} {chosen} type={named} window=none\n")
         };
@@ -325,7 +330,8 @@ fn the_type_is_that_of_the_tiles_in_the_window() {
     }
     // The first window has no tile, the second has one of another type than tile 0.
     let lines = prints(&["count", &file]);
-    let chosen = "tiles=2 selected=1 meet=1 masks=off scene=0 type=gray16 window=0,0,6,70007\n";
+    let chosen = "tiles=2 selected=1 meet=1 release=1.2 masks=off scene=0 type=gray16 \
+                  window=0,0,6,70007\n";
     assert_eq!(
         lines,
         format!("covered=42\npixels=420042\nwindows=2\n{chosen}")

@@ -25,7 +25,7 @@ fn info_says_the_figures_of_a_file_of_any_size() {
         "{out}"
     );
     let mut wanted = fs::read_to_string(sample("mosaic.txt")).unwrap();
-    wanted += "pyramid_tiles=0\nmasked_tiles=1\ntype=gray8 tiles=4\n";
+    wanted += "release=1.2\npyramid_tiles=0\nmasked_tiles=1\ntype=gray8 tiles=4\n";
     wanted += "scene=0 tiles=4 pyramid_tiles=0 box=100,60,143,88\n";
     wanted += "letter=C tiles=4 least=0 greatest=0\n";
     wanted += "letter=M tiles=4 least=0 greatest=3\n";
@@ -111,7 +111,8 @@ fn help_is_there_for_each_command() {
         let (code, out, err) = said(&czi(&[command, "--help"]));
         assert_eq!((code, err.as_str()), (0, ""));
         assert!(out.starts_with(&format!("usage: czi {command}")), "{out}");
-        assert!(!out.contains('@') && out.lines().all(|line| line.len() <= 82));
+        assert!(!out.contains(['@', '~']) && out.lines().all(|line| line.len() <= 82));
+        assert_eq!(out.contains("--release 1.02|1.2"), command != "sample");
         assert_eq!(said(&czi(&["help", command])), (code, out, err));
     }
     let (code, refusals, _) = said(&czi(&["help", "refusals"]));
@@ -189,7 +190,7 @@ mod compose {
         let more = [&BOX[..], &["--masks", "on", "--composer", "both"]].concat();
         let wanted = "pixels=1204\ncovered=1138\nstored=1500 plain, 1138 quick\n\
                       both composers agree\n\
-                      tiles=4 selected=4 meet=4 masks=on scene=0 type=gray8 \
+                      tiles=4 selected=4 meet=4 release=1.2 masks=on scene=0 type=gray8 \
                       window=100,60,43,28\n";
         assert_eq!(run(&folder, &more), (0, wanted.to_string(), String::new()));
         assert_eq!(folder.names(), ["map.pbm", "plane.raw"]);

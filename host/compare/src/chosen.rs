@@ -1,14 +1,15 @@
 //! Which tiles a question selects, and which of them meet its window: every mark,
-//! both counts, and what is past the marks and around them.
+//! both counts, and what is past the marks and around them, under both releases.
 
 use crate::lent::Lent;
 use crate::planes::plain;
+use crate::read::Read;
 use crate::reader::answer;
-use crate::report::Report;
+use crate::report::{name, Report};
 use czi::calls::{self, ChosenCounts, Plain};
 use generate::ask::draw;
 use generate::{Random, Sound};
-use reference::{Chosen, File, Question, Refusal};
+use reference::{Chosen, Question, Refusal, Release};
 
 /// A file is asked about so many windows that no composer takes.
 const ANY_WINDOWS: usize = 3;
@@ -17,12 +18,7 @@ const ANY_WINDOWS: usize = 3;
 const SIDE: u32 = 65_536;
 
 /// Windows of any sides, most of which a composer refuses.
-pub fn check_any_window(
-    sound: &Sound,
-    file: &Result<File, Refusal>,
-    random: &mut Random,
-    report: &mut Report,
-) {
+pub fn check_any_window(read: &Read, sound: &Sound, random: &mut Random, report: &mut Report) {
     for _ in 0..ANY_WINDOWS {
         let mut ask = draw(sound, random);
         let question = &mut ask.question;
@@ -35,65 +31,78 @@ pub fn check_any_window(
             question.top = random.pick(&[i32::MIN, -1, i32::MAX]);
         }
         let plain = plain(&ask, random);
-        check(&sound.bytes, file, (&ask.question, &plain), random, report);
+        check(read, (&ask.question, &plain), random, report);
     }
 }
 
-/// One question. Answers how many tiles meet its window, by the reference; nothing
-/// for a refused file.
+/// One question under each release. Answers how many tiles meet its window, by the
+/// reference; nothing where the file is refused.
 pub fn check(
-    bytes: &[u8],
-    file: &Result<File, Refusal>,
+    read: &Read,
     (question, plain): (&Question, &Plain),
     random: &mut Random,
     report: &mut Report,
-) -> Option<u64> {
-    report.calls += 1;
-    report.chosen += 1;
-    let wanted = file.as_ref().map(|file| file.chosen(question));
-    let tiles = wanted.as_ref().map_or(0, Vec::len);
-    let (length, kind) = match (&wanted, random.below(5)) {
-        (Err(_), more) => (more, "marks for a refused file"),
+) -> [Option<u64>; 2] {
+    let chosen = Release::ALL.map(|release| read.under(release).map(|f| f.chosen(question)));
+    // Under 1.2 there are as many tiles or none.
+    let tiles = chosen[1].as_ref().map_or(0, Vec::len);
+    let (length, kind) = match (&chosen[1], random.below(5)) {
+        (Err(_), more) => (more, OF_REFUSED),
         (Ok(_), 0) if tiles > 0 => (tiles - 1, "marks one too short"),
         (Ok(_), 1) => (tiles + 1 + random.below(9), "marks longer than needed"),
         (Ok(_), _) => (tiles, "marks exactly long enough"),
     };
-    report.lent.add(kind);
-    let mut got = Lent::<u8>::new(length, random.word());
-    let mut wanted_marks = got.clone();
-    let counts = match &wanted {
-        Err(refusal) => Err(**refusal),
-        Ok(_) if length < tiles => Err(Refusal::new(22, 0)),
-        Ok(chosen) => {
-            for (mark, chosen) in wanted_marks.lend().iter_mut().zip(chosen) {
-                *mark = mark_of(*chosen);
+    let lent = Lent::<u8>::new(length, random.word());
+    let got = report.of_each(|release| {
+        let mut marks = lent.clone();
+        let said = calls::chosen(read.bytes, release, plain, marks.lend());
+        (said, marks)
+    });
+    for (release, (wanted, (said, marks))) in Release::ALL.into_iter().zip(chosen.iter().zip(&got))
+    {
+        report.under(release).chosen += 1;
+        report
+            .lent
+            .add(if wanted.is_ok() { kind } else { OF_REFUSED });
+        let mut wanted_marks = lent.clone();
+        let counts = match wanted {
+            Err(refusal) => Err(*refusal),
+            Ok(_) if length < tiles => Err(Refusal::new(22, 0)),
+            Ok(chosen) => {
+                for (mark, chosen) in wanted_marks.lend().iter_mut().zip(chosen) {
+                    *mark = mark_of(*chosen);
+                }
+                let count = |least| chosen.iter().filter(|c| mark_of(**c) >= least).count() as u64;
+                Ok(ChosenCounts {
+                    selected: count(1),
+                    meeting: count(2),
+                })
             }
-            let count = |least| chosen.iter().filter(|c| mark_of(**c) >= least).count() as u64;
-            Ok(ChosenCounts {
-                selected: count(1),
-                meeting: count(2),
-            })
+        };
+        let none = ChosenCounts {
+            selected: 0,
+            meeting: 0,
+        };
+        let what = || format!("chosen: {plain:?}");
+        report.compare_under(release, what, said, &answer(counts, none));
+        if let Some(at) = marks.difference(&wanted_marks) {
+            let release = name(release);
+            report.differs(format!(
+                "chosen under {release}: marks differ at {at}: {plain:?}"
+            ));
         }
-    };
-    let none = ChosenCounts {
-        selected: 0,
-        meeting: 0,
-    };
-    let said = calls::chosen(bytes, plain, got.lend());
-    let wanted_said = answer(counts, none);
-    if said != wanted_said {
-        report.differs(format!(
-            "chosen: {said:?} instead of {wanted_said:?}: {plain:?}"
-        ));
     }
-    if let Some(at) = got.difference(&wanted_marks) {
-        report.differs(format!("chosen: marks differ at {at}: {plain:?}"));
+    read.hold_alike(|| format!("chosen: {plain:?}"), &got, report);
+    report.check_unchanged(read.bytes);
+    if let Ok(chosen) = &chosen[0] {
+        note(question, chosen, report);
     }
-    report.check_unchanged(bytes);
-    let chosen = wanted.ok()?;
-    note(question, &chosen, report);
-    Some(chosen.iter().filter(|c| **c == Chosen::Meets).count() as u64)
+    let meeting = |chosen: Vec<Chosen>| chosen.iter().filter(|c| **c == Chosen::Meets).count();
+    chosen.map(|chosen| chosen.ok().map(|chosen| meeting(chosen) as u64))
 }
+
+/// How marks are lent with a refused file.
+const OF_REFUSED: &str = "marks for a refused file";
 
 fn mark_of(chosen: Chosen) -> u8 {
     match chosen {

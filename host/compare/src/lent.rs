@@ -57,8 +57,16 @@ impl<T: Pattern> Lent<T> {
         &self.all[self.first..self.first + self.length]
     }
 
+    /// Makes it as the other, of the same shape, is.
+    pub fn copy(&mut self, other: &Lent<T>) {
+        self.all.copy_from_slice(&other.all);
+    }
+
     /// Where two of one shape differ first, counted in what is lent.
     pub fn difference(&self, other: &Lent<T>) -> Option<i64> {
+        if self.all == other.all {
+            return None;
+        }
         let pairs = self.all.iter().zip(&other.all);
         let at = pairs.into_iter().position(|(a, b)| a != b)?;
         Some(at as i64 - self.first as i64)
@@ -81,6 +89,12 @@ impl Buffers {
             target: Lent::new(target, salt),
             map: Lent::new(map, salt >> 8),
         }
+    }
+
+    /// Makes both as those of the other, of the same shape, are.
+    pub fn copy(&mut self, other: &Buffers) {
+        self.target.copy(&other.target);
+        self.map.copy(&other.map);
     }
 
     /// Where they differ first.

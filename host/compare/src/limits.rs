@@ -1,12 +1,13 @@
 //! Files at the limits, and inputs too long to list or to judge.
 
 use crate::planes;
+use crate::read::Read;
 use crate::reader;
 use crate::report::Report;
 use crate::zeros::Zeros;
 use generate::damage::EXTERNAL_CLAUSE;
 use generate::{Random, Sound, LIMITS, LISTING_CLAUSES};
-use reference::{list, Refusal};
+use reference::{list, Refusal, Release};
 
 /// The length above which a file is refused.
 const LONGEST: usize = 1 << 40;
@@ -16,13 +17,12 @@ pub fn check(sound: &Sound, random: &mut Random, report: &mut Report) {
     for limit in LIMITS {
         if let Some(bytes) = limit.reach(sound, random) {
             report.at(limit.name, &bytes);
-            match reader::check(&bytes, report) {
-                Ok(()) => {
-                    report.limits.add(limit.name);
-                    planes::check_damaged(sound, &bytes, false, random, report);
-                    report.outcomes.add("a question to a file at a limit");
-                }
-                Err(refusal) => report.differs(refusal),
+            let read = Read::new(&bytes, report);
+            reader::check(&read, report);
+            if report.compare(limit.name, &read.refusals(), &[None; 2]) {
+                report.limits.add(limit.name);
+                planes::check_damaged(&read, sound, random, report);
+                report.outcomes.add("a question to a file at a limit");
             }
         }
     }
@@ -30,9 +30,11 @@ pub fn check(sound: &Sound, random: &mut Random, report: &mut Report) {
         if let Some(bytes) = clause.reach(sound, random) {
             report.at(clause.name, &bytes);
             // The library's text is compared with this one.
-            let _ = reader::check(&bytes, report);
-            let wanted = "refused=30\nplace=0\n".to_string();
-            if report.compare("list", &list(&bytes), &wanted) {
+            let read = Read::new(&bytes, report);
+            reader::check(&read, report);
+            let listed = Release::ALL.map(|release| list(&bytes, release));
+            let wanted = ["refused=30\nplace=0\n"; 2].map(String::from);
+            if report.compare("list", &listed, &wanted) {
                 report.clauses.add(clause.name);
             }
         }
@@ -45,11 +47,12 @@ pub fn check_longest(report: &mut Report) {
     for (length, number) in [(LONGEST, 2), (LONGEST + 32, 1), (LONGEST + 31, 1)] {
         match Zeros::new(length) {
             Ok(bytes) => {
-                let wanted = reader::answer(Err(Refusal::new(number, 0)), ());
-                let refusal = reference::judge(&bytes).map(|_| ());
-                let same = report.compare("judge", &czi::calls::judge(&bytes), &wanted)
-                    & report.compare("reference", &reader::answer(refusal, ()), &wanted);
-                report.calls += 1;
+                let wanted = [reader::answer(Err(Refusal::new(number, 0)), ()); 2];
+                let said = report.of_each(|release| czi::calls::judge(&bytes, release));
+                let judged = |release| reference::judge(&bytes, release).map(|_| ());
+                let read = Release::ALL.map(|release| reader::answer(judged(release), ()));
+                let same = report.compare("judge", &said, &wanted)
+                    & report.compare("reference", &read, &wanted);
                 if same && length == LONGEST + 32 {
                     report.clauses.add(EXTERNAL_CLAUSE);
                 }

@@ -1,19 +1,25 @@
 //! The proved library compared with the reference, which was written from the
 //! paper and not from the definitions: generated files, damaged ones, metadata
-//! of every kind, and questions to them. Every number of every answer and every lent byte is
-//! compared, of refused calls too. Prints how often each clause was reached;
-//! one reached not once fails the run, as any difference does, and a failing
-//! case is kept in a file that says how to run it again.
+//! of every kind, and questions to them, all under releases 1.2 and 1.02. Every
+//! number of every answer and every lent byte is compared, of refused calls too; and
+//! what the releases have in common is held of the library's own answers. Prints how
+//! often each clause was reached; one reached not once fails the run, as any
+//! difference does, and a failing case is kept in a file that says how to run it
+//! again.
 
 #![deny(unsafe_code)]
 
+mod case;
 mod chosen;
+mod counts;
 mod damages;
+mod jobs;
 mod lent;
 mod limits;
 mod metadata;
 mod options;
 mod planes;
+mod read;
 mod reader;
 mod report;
 mod tables;
@@ -22,6 +28,7 @@ mod zeros;
 
 use generate::{freedoms_of, sound, Random};
 use options::Options;
+use read::Read;
 use report::Report;
 use std::process::ExitCode;
 use std::time::Instant;
@@ -39,7 +46,8 @@ fn main() -> ExitCode {
         }
     };
     let begun = Instant::now();
-    let report = run(&options);
+    let mut report = run(&options);
+    report.keep();
     print!("{report}");
     println!("{:.1} seconds", begun.elapsed().as_secs_f64());
     if report.passed(options.replay) {
@@ -49,19 +57,30 @@ fn main() -> ExitCode {
     }
 }
 
-/// Compares on the files of all seeds.
+/// So many seeds are a part of a run.
+const SEEDS: u64 = 250;
+
+/// What is compared once in a run, each a part of its own.
+const ONCE: [fn(&mut Report); 4] = [
+    limits::check_longest,
+    metadata::check_long,
+    metadata::check_short,
+    types::check,
+];
+
+/// Compares on the files of all seeds, and what is compared once.
 fn run(options: &Options) -> Report {
-    let mut report = Report::new();
-    for seed in options.first..options.first + options.files {
-        compare(seed, options, &mut report);
-    }
-    if !options.replay {
-        limits::check_longest(&mut report);
-        metadata::check_long(&mut report);
-        metadata::check_short(&mut report);
-        types::check(&mut report);
-    }
-    report
+    let of_seeds = options.files.div_ceil(SEEDS) as usize;
+    let once = if options.replay { 0 } else { ONCE.len() };
+    jobs::run(options.jobs, of_seeds + once, |part, report| {
+        if let Some(once) = part.checked_sub(of_seeds) {
+            return ONCE[once](report);
+        }
+        let first = SEEDS * part as u64;
+        for seed in first..options.files.min(first + SEEDS) {
+            compare(options.first + seed, options, report);
+        }
+    })
 }
 
 /// All comparisons of one seed, which decides them all.
@@ -75,11 +94,11 @@ fn compare(seed: u64, options: &Options, report: &mut Report) {
     }
     report.at("the sound file", &sound.bytes);
     report.sound += 1;
-    if reader::check(&sound.bytes, report).is_err() {
-        report.differs("a sound file is refused by both");
-    }
-    reader::check_requests(&sound, random, report);
-    planes::check(&sound, random, options.questions, report);
+    let read = Read::new(&sound.bytes, report);
+    reader::check(&read, report);
+    report.compare("a sound file", &read.refusals(), &[None; 2]);
+    reader::check_requests(&read, &sound, random, report);
+    planes::check(&read, &sound, random, options.questions, report);
     damages::check(&sound, random, report);
     metadata::check(random, report);
     if seed.is_multiple_of(100) {
@@ -99,7 +118,25 @@ mod tests {
             files: 2_000,
             questions: 5,
             replay: false,
+            jobs: 2,
         });
         assert!(report.passed(false), "{report}");
+    }
+
+    #[test]
+    fn a_run_is_the_same_on_any_number_of_threads() {
+        let on = |jobs| {
+            let report = run(&Options {
+                first: 77,
+                files: 600,
+                questions: 1,
+                replay: true,
+                jobs,
+            });
+            report.to_string()
+        };
+        let one = on(1);
+        assert!(one.contains("600 sound"), "{one}");
+        assert_eq!(on(3), one);
     }
 }

@@ -1,15 +1,15 @@
 //! Metadata of a sub-block: which declare a chunk container. Each stands in a
 //! file of one tile whose attachment is no row of chunks, so that the file is
-//! refused as 17 exactly where they declare one. Some stand there with a mask,
-//! which both composers use where they do.
+//! refused as 17 exactly where they declare one and 1.2 is the release. Some stand
+//! there with a mask, which both composers use where they do.
 
 use crate::planes;
+use crate::read::Read;
 use crate::reader;
 use crate::report::Report;
-use czi::calls;
 use generate::ask::{Ask, Request};
 use generate::{draw_tokens, Metadata, OneTile, Random};
-use reference::{judge, Masks, Question, Refusal};
+use reference::{Masks, Question, Refusal, Release};
 
 /// A seed brings so many metadata of drawn tokens with it.
 const TOKENS: usize = 8;
@@ -161,28 +161,30 @@ fn check_one(
     declares
 }
 
-/// The verdicts of both. Answers whether the file is refused as 17.
+/// The verdicts of both. Answers whether the file is refused as 17 under 1.2; under
+/// 1.02 it is accepted always.
 fn check_judged(stage: &str, metadata: &[u8], file: &mut OneTile, report: &mut Report) -> bool {
     let bytes = file.with(metadata, &OneTile::NO_CHUNK);
     report.at(stage, bytes);
-    report.calls += 1;
-    let verdict = judge(bytes).map(|_| ());
-    report.compare("judge", &calls::judge(bytes), &reader::answer(verdict, ()));
-    report.check_unchanged(bytes);
+    let [newer, older] = Read::new(bytes, report).refusals();
     let refused = Refusal::new(17, OneTile::attachment_at(metadata));
-    if verdict.is_err_and(|refusal| refusal != refused) {
-        report.differs(format!("refused otherwise: {verdict:?}"));
+    if newer.is_some_and(|refusal| refusal != refused) || older.is_some() {
+        report.differs(format!("refused otherwise: {newer:?}, {older:?}"));
     }
-    verdict.is_err()
+    newer.is_some()
 }
 
-/// The tile's record, and its plane by both composers, masks on.
+/// The tile's record, and its plane by both composers, masks on. Under 1.02 it has
+/// no mask, whatever the metadata declare.
 fn check_masked(bytes: &[u8], declares: bool, random: &mut Random, report: &mut Report) {
-    let file = judge(bytes);
-    let tile = file.as_ref().ok().and_then(|file| file.tile(0).ok());
-    let masked = tile.is_some_and(|tile| tile.mask.is_some());
-    report.compare("a mask", &masked, &declares);
-    reader::check_request(bytes, &file, Request::Tile(0), report);
+    let read = &Read::new(bytes, report);
+    let has_mask = |release| {
+        let tile = read.under(release).and_then(|file| file.tile(0));
+        tile.is_ok_and(|tile| tile.mask.is_some())
+    };
+    let masked = Release::ALL.map(has_mask);
+    report.compare("a mask", &masked, &[declares, false]);
+    reader::check_request(read, Request::Tile(0), report);
     let (width, height) = OneTile::SIDES;
     let mut ask = Ask {
         question: Question {
@@ -200,8 +202,7 @@ fn check_masked(bytes: &[u8], declares: bool, random: &mut Random, report: &mut 
         map: 0,
     };
     (ask.target, ask.map) = (ask.target_needed(), ask.map_needed());
-    if planes::compose(bytes, &file, &ask, random, report).is_err() {
-        report.differs("no plane");
-    }
+    let refusals = planes::compose(read, &ask, random, report).refusals();
+    report.compare("a plane", &refusals, &[None; 2]);
     report.masked += 1;
 }

@@ -2,19 +2,24 @@
 
 /// How the command is called.
 pub const USAGE: &str = "\
-usage: compare [--files N] [--first SEED] [--questions N] [--long]
+usage: compare [--files N] [--first SEED] [--questions N] [--long] [--jobs N]
        compare --replay SEED [--questions N]
 
 Compares the proved library with the reference on the files of N seeds from
 SEED on, each with so many answered questions and as many refused ones as its
-tiles allow. --long takes ten times as many files. --replay runs one seed
-again, on which a run has failed.";
+tiles allow, under releases 1.2 and 1.02. --long takes ten times as many files.
+--jobs says how many threads there are, as many as cores unless given; what is
+printed is the same for any number. --replay runs one seed again, on which a run
+has failed.";
 
-/// So many files without --files: a minute on one core.
+/// So many files without --files: a minute on two cores.
 const FILES: u64 = 30_000;
 
 /// So many drawn questions to a file without --questions.
 const QUESTIONS: u64 = 5;
+
+/// The most threads that may be asked for.
+const MOST_JOBS: u64 = 64;
 
 /// What is to be run.
 #[derive(Debug, PartialEq, Eq)]
@@ -27,6 +32,8 @@ pub struct Options {
     pub questions: u64,
     /// One seed again: what it does not reach is no failure.
     pub replay: bool,
+    /// The number of threads.
+    pub jobs: usize,
 }
 
 impl Options {
@@ -37,6 +44,7 @@ impl Options {
             files: FILES,
             questions: QUESTIONS,
             replay: false,
+            jobs: std::thread::available_parallelism().map_or(1, |cores| cores.get()),
         };
         while let Some(name) = arguments.next() {
             let mut number = || {
@@ -50,6 +58,10 @@ impl Options {
                 "--first" => options.first = number()?,
                 "--questions" => options.questions = number()?,
                 "--long" => options.files = 10 * FILES,
+                "--jobs" => match number()? {
+                    jobs @ 1..=MOST_JOBS => options.jobs = jobs as usize,
+                    other => return Err(format!("--jobs is 1 to {MOST_JOBS}, not {other}")),
+                },
                 "--replay" => {
                     options.first = number()?;
                     options.files = 1;
@@ -88,6 +100,8 @@ mod tests {
             "--files x",
             "--what",
             "--first 18446744073709551615",
+            "--jobs 0",
+            "--jobs 65",
         ] {
             assert!(parse(line).is_err(), "{line}");
         }

@@ -1,5 +1,6 @@
-//! The reader: verdict, listing, figures, records and parts.
+//! The reader: listing, figures, records and parts, under both releases.
 
+use crate::read::{without_mask, Read};
 use crate::report::Report;
 use crate::tables;
 use czi::calls::{
@@ -7,7 +8,8 @@ use czi::calls::{
 };
 use generate::ask::{Request, REQUEST_CLAUSES};
 use generate::{Random, Sound};
-use reference::{judge, list, Attachment, Dimension, File, Refusal, Summary, Tile, View};
+use reference::{list, Attachment, Dimension, File, Refusal, Release, Summary, Tile, View};
+use std::fmt::Debug;
 
 /// Of a file with more entries, so many of the first are asked for, and the last.
 const MOST_ASKED: u64 = 24;
@@ -16,25 +18,40 @@ const MOST_ASKED: u64 = 24;
 const LONG: usize = 65_536;
 const FEWER_ASKED: u64 = 2;
 
-/// Everything that a reader is asked of the file at hand; answers the reference's verdict.
-pub fn check(bytes: &[u8], report: &mut Report) -> Result<(), Refusal> {
-    let file = judge(bytes);
-    let verdict = file.as_ref().map(|_| ()).map_err(|refusal| *refusal);
-    let wanted = answer(verdict, ());
-    report.compare("judge", &calls::judge(bytes), &wanted);
-    report.compare("list", &calls::list(bytes), &text(&list(bytes)));
-    let figures = file.as_ref().map(|f| figures(&f.summary()));
-    let wanted = answer(figures.map_err(|r| *r), NO_FIGURES);
-    report.compare("summary", &calls::summary(bytes), &wanted);
-    let xml = file.as_ref().map(|f| f.xml).map_err(|r| *r);
-    report.compare("common XML", &calls::common_xml(bytes), &part(xml));
-    let attached = file.as_ref().map(|f| f.xml_attachment).map_err(|r| *r);
-    let got = calls::common_attachment(bytes);
-    report.compare("common attachment", &got, &part(attached));
-    report.calls += 5;
-    tables::check(bytes, &file, report);
+/// Everything that a reader is asked of the file at hand, but the verdict.
+pub fn check(read: &Read, report: &mut Report) {
+    let bytes = read.bytes;
+    check_answer(
+        read,
+        || "list".into(),
+        |release| calls::list(bytes, release),
+        |release, _| text(&list(bytes, release)),
+        report,
+    );
+    check_answer(
+        read,
+        || "summary".into(),
+        |release| calls::summary(bytes, release),
+        |_, file| answer(file.map(|f| figures(&f.summary())), NO_FIGURES),
+        report,
+    );
+    check_answer(
+        read,
+        || "common XML".into(),
+        |release| calls::common_xml(bytes, release),
+        |_, file| part(file.map(|f| f.xml)),
+        report,
+    );
+    check_answer(
+        read,
+        || "common attachment".into(),
+        |release| calls::common_attachment(bytes, release),
+        |_, file| part(file.map(|f| f.xml_attachment)),
+        report,
+    );
+    tables::check(read, report);
 
-    let (tiles, attachments) = file.as_ref().map_or((0, 0), |f| {
+    let (tiles, attachments) = read.widest().map_or((0, 0), |f| {
         (f.tiles.len() as u64, f.attachments.len() as u64)
     });
     let most = match bytes.len() {
@@ -42,14 +59,13 @@ pub fn check(bytes: &[u8], report: &mut Report) -> Result<(), Refusal> {
         _ => FEWER_ASKED,
     };
     for entry in asked(tiles, most) {
-        check_tile(bytes, &file, entry, report);
+        check_tile(read, entry, report);
     }
     for entry in asked(attachments, most) {
-        check_request(bytes, &file, Request::Attachment(entry), report);
-        check_request(bytes, &file, Request::AttachmentData(entry), report);
+        check_request(read, Request::Attachment(entry), report);
+        check_request(read, Request::AttachmentData(entry), report);
     }
     report.check_unchanged(bytes);
-    verdict
 }
 
 /// The numbers that are asked for, with the one past the last.
@@ -59,84 +75,139 @@ fn asked(count: u64, most: u64) -> impl Iterator<Item = u64> {
     first.chain(last)
 }
 
-fn check_tile(bytes: &[u8], file: &Result<File, Refusal>, entry: u64, report: &mut Report) {
-    check_request(bytes, file, Request::Tile(entry), report);
-    check_request(bytes, file, Request::TilePixels(entry), report);
-    check_request(bytes, file, Request::TileMetadata(entry), report);
-    check_request(bytes, file, Request::TileAttachment(entry), report);
-    let tile = file.as_ref().ok().and_then(|f| f.tile(entry).ok());
+fn check_tile(read: &Read, entry: u64, report: &mut Report) {
+    check_request(read, Request::Tile(entry), report);
+    check_request(read, Request::TilePixels(entry), report);
+    check_request(read, Request::TileMetadata(entry), report);
+    check_request(read, Request::TileAttachment(entry), report);
+    let tile = read.widest().and_then(|f| f.tile(entry).ok());
     let count = tile.map_or(0, |t| t.dimensions.len() as u64);
     for k in 0..=count {
-        check_request(bytes, file, Request::Dimension(entry, k), report);
+        check_request(read, Request::Dimension(entry, k), report);
     }
 }
 
-/// One request for a record or a part.
-pub fn check_request(
-    bytes: &[u8],
-    file: &Result<File, Refusal>,
-    request: Request,
+/// What the library answers under each release against what the reference does, and
+/// both against each other.
+fn check_answer<T: PartialEq + Debug>(
+    read: &Read,
+    what: impl Fn() -> String,
+    call: impl FnMut(u32) -> T,
+    wanted: impl Fn(Release, Result<&File, Refusal>) -> T,
     report: &mut Report,
-) -> Option<Refusal> {
-    report.calls += 1;
+) {
+    let got = report.of_each(call);
+    compare_each(read, &what, &got, wanted, report);
+    read.hold_alike(what, &got, report);
+}
+
+/// What the library answers under each release against what the reference does.
+fn compare_each<T: PartialEq + Debug>(
+    read: &Read,
+    what: impl Fn() -> String,
+    got: &[T; 2],
+    wanted: impl Fn(Release, Result<&File, Refusal>) -> T,
+    report: &mut Report,
+) {
+    for (release, got) in Release::ALL.into_iter().zip(got) {
+        let wanted = wanted(release, read.under(release));
+        report.compare_under(release, &what, got, &wanted);
+    }
+}
+
+/// One request for a record or a part. Answers the reference's refusals.
+pub fn check_request(read: &Read, request: Request, report: &mut Report) -> [Option<Refusal>; 2] {
+    let bytes = read.bytes;
     let what = || format!("{request:?}");
-    let file = file.as_ref().map_err(|refusal| *refusal);
-    let viewed = |view: Result<View, Refusal>, got: Answer<Span>, report: &mut Report| {
-        if got != part(view) {
-            report.differs(format!("{}: {got:?} instead of {view:?}", what()));
-        }
-        view.err()
-    };
     match request {
         Request::Tile(entry) => {
-            let tile = file.and_then(|f| f.tile(entry));
-            let mut got = LENT_TILE;
-            let told = calls::tile(bytes, entry, &mut got);
-            report.compare(&what(), &told, &answer(tile.map(|_| ()), ()));
-            report.compare(&what(), &got, &tile.map_or(LENT_TILE, record));
-            tile.err()
+            let call = |release| {
+                let mut record = LENT_TILE;
+                (calls::tile(bytes, release, entry, &mut record), record)
+            };
+            let got = report.of_each(call);
+            let wanted = |_, file: Result<&File, Refusal>| {
+                let tile = file.and_then(|f| f.tile(entry));
+                (answer(tile.map(|_| ()), ()), tile.map_or(LENT_TILE, record))
+            };
+            compare_each(read, what, &got, wanted, report);
+            // Under 1.02 it is the same record, and there is no mask.
+            let [(told, newer), older] = got;
+            let newer = match told.number {
+                0 => without_mask(newer),
+                _ => newer,
+            };
+            read.hold_alike(what, &[(told, newer), older], report);
+            refused(read, |f| f.tile(entry).map(|_| ()))
         }
         Request::Dimension(entry, k) => {
-            let dimension = file.and_then(|f| f.dimension(entry, k));
-            let wanted = answer(dimension.map(dimension_record), NO_DIMENSION);
-            report.compare(&what(), &calls::dimension(bytes, entry, k), &wanted);
-            dimension.err()
+            let call = |release| calls::dimension(bytes, release, entry, k);
+            let wanted = |_, file: Result<&File, Refusal>| {
+                let dimension = file.and_then(|f| f.dimension(entry, k));
+                answer(dimension.map(dimension_record), NO_DIMENSION)
+            };
+            check_answer(read, what, call, wanted, report);
+            refused(read, |f| f.dimension(entry, k).map(|_| ()))
         }
         Request::TilePixels(entry) => {
-            let view = file.and_then(|f| f.tile_pixels(entry));
-            viewed(view, calls::tile_pixels(bytes, entry), report)
+            let call = |release| calls::tile_pixels(bytes, release, entry);
+            check_view(read, request, call, |f| f.tile_pixels(entry), report)
         }
         Request::TileMetadata(entry) => {
-            let view = file.and_then(|f| f.tile_metadata(entry));
-            viewed(view, calls::tile_metadata(bytes, entry), report)
+            let call = |release| calls::tile_metadata(bytes, release, entry);
+            check_view(read, request, call, |f| f.tile_metadata(entry), report)
         }
         Request::TileAttachment(entry) => {
-            let view = file.and_then(|f| f.tile_attachment(entry));
-            viewed(view, calls::tile_attachment(bytes, entry), report)
+            let call = |release| calls::tile_attachment(bytes, release, entry);
+            check_view(read, request, call, |f| f.tile_attachment(entry), report)
         }
         Request::Attachment(entry) => {
-            let attachment = file.and_then(|f| f.attachment(entry));
-            let mut got = LENT_ATTACHMENT;
-            let told = calls::attachment(bytes, entry, &mut got);
-            report.compare(&what(), &told, &part(attachment.map(|a| a.data)));
-            let wanted = attachment.map_or(LENT_ATTACHMENT, attachment_record);
-            report.compare(&what(), &got, &wanted);
-            attachment.err()
+            let call = |release| {
+                let mut record = LENT_ATTACHMENT;
+                (
+                    calls::attachment(bytes, release, entry, &mut record),
+                    record,
+                )
+            };
+            let wanted = |_, file: Result<&File, Refusal>| {
+                let attachment = file.and_then(|f| f.attachment(entry));
+                let record = attachment.map_or(LENT_ATTACHMENT, attachment_record);
+                (part(attachment.map(|a| a.data)), record)
+            };
+            check_answer(read, what, call, wanted, report);
+            refused(read, |f| f.attachment(entry).map(|_| ()))
         }
         Request::AttachmentData(entry) => {
-            let view = file.and_then(|f| f.attachment_data(entry));
-            viewed(view, calls::attachment_data(bytes, entry), report)
+            let call = |release| calls::attachment_data(bytes, release, entry);
+            check_view(read, request, call, |f| f.attachment_data(entry), report)
         }
     }
+}
+
+/// One request for a part.
+fn check_view(
+    read: &Read,
+    request: Request,
+    call: impl FnMut(u32) -> Answer<Span>,
+    view: impl Fn(&File) -> Result<View, Refusal>,
+    report: &mut Report,
+) -> [Option<Refusal>; 2] {
+    let wanted = |_, file: Result<&File, Refusal>| part(file.and_then(&view));
+    check_answer(read, || format!("{request:?}"), call, wanted, report);
+    refused(read, |f| view(f).map(|_| ()))
+}
+
+/// The reference's refusals of a request.
+fn refused(read: &Read, request: impl Fn(&File) -> Result<(), Refusal>) -> [Option<Refusal>; 2] {
+    Release::ALL.map(|release| read.under(release).and_then(&request).err())
 }
 
 /// Requests for what the file does not have.
-pub fn check_requests(sound: &Sound, random: &mut Random, report: &mut Report) {
-    let file = judge(&sound.bytes);
+pub fn check_requests(read: &Read, sound: &Sound, random: &mut Random, report: &mut Report) {
     for clause in REQUEST_CLAUSES {
         if let Some(request) = clause.draw(sound, random) {
-            let refusal = check_request(&sound.bytes, &file, request, report);
-            if report.compare(clause.name, &refusal, &Some(Refusal::new(24, 0))) {
+            let refusals = check_request(read, request, report);
+            if report.compare(clause.name, &refusals, &[Some(Refusal::new(24, 0)); 2]) {
                 report.clauses.add(clause.name);
             }
         }

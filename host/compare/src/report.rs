@@ -1,11 +1,12 @@
-//! What a run found, and the file that a failing case is kept in.
+//! What a run found.
 
+use crate::case::Case;
+use crate::counts::{Compared, Declared};
 use generate::ask::{ask_clauses, ask_freedoms, REQUEST_CLAUSES};
 use generate::damage::{clauses, EXTERNAL_CLAUSE};
-use generate::{freedoms, metadata_names, Tally, LIMITS, LISTING_CLAUSES};
+use generate::{freedoms, metadata_names, Tally, LIMITS, LISTING_CLAUSES, VERDICTS};
+use reference::Release;
 use std::fmt;
-use std::fs;
-use std::path::PathBuf;
 
 /// A run prints so many differences and counts the rest.
 const MOST_PRINTED: usize = 20;
@@ -51,32 +52,37 @@ const CHOICES: [&str; 6] = [
     "an edge above 2^31 - 1, and a tile meets the window",
 ];
 
+/// The names of two damages at once.
+const PAIRS: [&str; 4] = [
+    "no broken container",
+    "a broken container before another fault",
+    "a broken container behind another fault",
+    "two broken containers, or one twice",
+];
+
+/// The names of what a question gets under both releases.
+const BOTH: [&str; 8] = [
+    "masks not on, the same under both releases",
+    "masks on, the same under both releases",
+    "masks on, 1.02 covers more pixels",
+    "masks on, 1.02 covers as many and shows others",
+    "refused under both releases",
+    "17 under 1.2, a plane under 1.02",
+    "18 under 1.2, a plane under 1.02",
+    "17 or 18 under 1.2, another refusal under 1.02",
+];
+
+/// Numbers that mean release 1.2, some of which are 1.02's if they are cut.
+const NUMBERS_OF_1_2: [u32; 6] = [0, 0, 2, 257, 65_537, u32::MAX];
+
 /// Of metadata of drawn tokens at least one in so many must declare a container.
 const LEAST_DECLARED: u64 = 10;
 
-/// Metadata, and those that declare a container.
-#[derive(Default)]
-pub struct Declared {
-    all: u64,
-    declaring: u64,
-}
-
-impl Declared {
-    /// One more.
-    pub fn note(&mut self, declares: bool) {
-        self.all += 1;
-        self.declaring += u64::from(declares);
-    }
-}
-
-impl fmt::Display for Declared {
-    fn fmt(&self, f: &mut fmt::Formatter<'_>) -> fmt::Result {
-        let share = 100.0 * self.declaring as f64 / self.all.max(1) as f64;
-        let (all, declaring) = (self.all, self.declaring);
-        write!(
-            f,
-            "{all}, of which {declaring} declare a container ({share:.0} %)"
-        )
+/// The name of a release.
+pub fn name(release: Release) -> &'static str {
+    match release {
+        Release::V1_2 => "1.2",
+        Release::V1_02 => "1.02",
     }
 }
 
@@ -90,18 +96,12 @@ pub struct Report {
     pub sound: u64,
     /// Files with damage.
     pub damaged: u64,
-    /// Files with two damages at once.
-    pub pairs: u64,
     /// Files with damage of any kind.
     pub scrambled: u64,
-    /// Calls of the library.
-    pub calls: u64,
-    /// Questions put to both composers.
-    pub questions: u64,
-    /// Tables of all records.
-    pub tables: u64,
-    /// Questions for what is selected.
-    pub chosen: u64,
+    /// Under 1.2 and under 1.02.
+    compared: [Compared; 2],
+    /// Questions put under 1.02 with each choice of masks.
+    pub all_choices: u64,
     /// Metadata of drawn tokens.
     pub tokens: Declared,
     /// Metadata with a foretold answer.
@@ -116,10 +116,16 @@ pub struct Report {
     pub metadata_names: Tally,
     /// Files at a limit.
     pub limits: Tally,
+    /// Files with two damages at once.
+    pub pairs: Tally,
+    /// What both releases say of a file.
+    pub verdicts: Tally,
     /// Freedoms that questions take.
     pub ask_freedoms: Tally,
     /// What came of questions.
     pub outcomes: Tally,
+    /// What came of them under both releases.
+    pub both: Tally,
     /// How arrays and marks are lent.
     pub lent: Tally,
     /// What is selected, and what meets the window.
@@ -132,6 +138,7 @@ pub struct Report {
     fresh: Vec<String>,
     bytes: Vec<u8>,
     failing: Option<Vec<u8>>,
+    cases: Vec<Case>,
     kept: Vec<String>,
 }
 
@@ -151,12 +158,9 @@ impl Report {
             stage: String::new(),
             sound: 0,
             damaged: 0,
-            pairs: 0,
             scrambled: 0,
-            calls: 0,
-            questions: 0,
-            tables: 0,
-            chosen: 0,
+            compared: [Compared::default(); 2],
+            all_choices: 0,
             tokens: Declared::default(),
             foretold: Declared::default(),
             short: Declared::default(),
@@ -164,8 +168,11 @@ impl Report {
             freedoms: Tally::new("Files that take a freedom", freedoms()),
             metadata_names: Tally::new("Metadata by what they hold", metadata_names()),
             limits: Tally::new("Files at a limit", LIMITS.iter().map(|l| l.name)),
+            pairs: Tally::new("Files with two damages at once", PAIRS),
+            verdicts: Tally::new("Files by what both releases say", VERDICTS),
             ask_freedoms: Tally::new("Questions that take a freedom", ask_freedoms()),
             outcomes: Tally::new("Questions by what came of them", OUTCOMES),
+            both: Tally::new("Questions by what came of them under both releases", BOTH),
             lent: Tally::new("Arrays and marks by how they are lent", LENT),
             choices: Tally::new("Questions by what is chosen", CHOICES),
             clauses: Tally::new("Refusals by clause", all),
@@ -174,8 +181,31 @@ impl Report {
             fresh: Vec::new(),
             bytes: Vec::new(),
             failing: None,
+            cases: Vec::new(),
             kept: Vec::new(),
         }
+    }
+
+    /// Adds what another report found, of what was compared later.
+    pub fn join(&mut self, other: Report) {
+        self.sound += other.sound;
+        self.damaged += other.damaged;
+        self.scrambled += other.scrambled;
+        for (compared, more) in self.compared.iter_mut().zip(&other.compared) {
+            compared.join(more);
+        }
+        self.all_choices += other.all_choices;
+        self.tokens.join(&other.tokens);
+        self.foretold.join(&other.foretold);
+        self.short.join(&other.short);
+        self.masked += other.masked;
+        for (tally, more) in self.tallies_mut().into_iter().zip(other.tallies()) {
+            tally.join(more);
+        }
+        self.differences.extend(other.differences);
+        self.untold += other.untold + cut(&mut self.differences);
+        self.cases.extend(other.cases);
+        cut(&mut self.cases);
     }
 
     /// A seed begins.
@@ -190,6 +220,29 @@ impl Report {
         self.salts += 1;
         let word = self.seed.wrapping_mul(0x2545_F491_4F6C_DD1D) ^ self.salts;
         word.wrapping_mul(0x9E37_79B9_7F4A_7C15) >> 20
+    }
+
+    /// The counts of that release.
+    pub fn under(&mut self, release: Release) -> &mut Compared {
+        let [newer, older] = &mut self.compared;
+        match release {
+            Release::V1_2 => newer,
+            Release::V1_02 => older,
+        }
+    }
+
+    /// A call of the library under that release, by one of the numbers that mean it.
+    pub fn call<T>(&mut self, release: Release, call: impl FnOnce(u32) -> T) -> T {
+        self.under(release).calls += 1;
+        call(match release {
+            Release::V1_2 => NUMBERS_OF_1_2[self.salt() as usize % NUMBERS_OF_1_2.len()],
+            Release::V1_02 => 1,
+        })
+    }
+
+    /// A call of the library under each release.
+    pub fn of_each<T>(&mut self, mut call: impl FnMut(u32) -> T) -> [T; 2] {
+        Release::ALL.map(|release| self.call(release, &mut call))
     }
 
     /// What is compared from here on: its name, and the file.
@@ -219,6 +272,22 @@ impl Report {
         self.fresh.push(line);
     }
 
+    /// Notes a difference under that release unless both are equal.
+    pub fn compare_under<T: PartialEq + fmt::Debug>(
+        &mut self,
+        release: Release,
+        what: impl FnOnce() -> String,
+        got: &T,
+        wanted: &T,
+    ) {
+        if got != wanted {
+            let (what, release) = (what(), name(release));
+            self.differs(format!(
+                "{what} under {release}: {got:?} instead of {wanted:?}"
+            ));
+        }
+    }
+
     /// Notes a difference unless both are equal.
     pub fn compare<T: PartialEq + fmt::Debug>(&mut self, what: &str, got: &T, wanted: &T) -> bool {
         let same = got == wanted;
@@ -228,50 +297,74 @@ impl Report {
         same
     }
 
-    /// A seed ends; what differed is kept in a file.
+    /// A seed ends.
     pub fn end(&mut self, sound: &[u8]) {
         if self.fresh.is_empty() {
             return;
         }
         let lines = std::mem::take(&mut self.fresh);
-        let failing = self.failing.take().unwrap_or_else(|| sound.to_vec());
-        if self.kept.len() >= MOST_PRINTED {
-            return;
-        }
-        let again = format!(
-            "cd host && cargo run --offline --release -p compare -- --replay {} --questions {}",
-            self.seed, self.asked
-        );
-        let text = format!("{}\n\nreplayed by: {again}\n", lines.join("\n"));
-        let folder = folder();
-        let case = folder.join(format!("seed-{}.txt", self.seed));
-        let file = folder.join(format!("seed-{}.czi", self.seed));
-        let written = fs::create_dir_all(&folder)
-            .and_then(|()| fs::write(&case, text))
-            .and_then(|()| fs::write(&file, failing));
-        self.kept.push(match written {
-            Ok(()) => format!("kept in {}, replayed by: {again}", case.display()),
-            Err(error) => format!("not kept ({error}), replayed by: {again}"),
+        let file = self.failing.take().unwrap_or_else(|| sound.to_vec());
+        let (seed, asked) = (self.seed, self.asked);
+        self.cases.push(Case {
+            seed,
+            asked,
+            lines,
+            file,
         });
+        cut(&mut self.cases);
     }
 
-    fn tallies(&self) -> [&Tally; 8] {
+    /// The run ends; the seeds on which something differed are kept in files.
+    pub fn keep(&mut self) {
+        for case in &self.cases {
+            self.kept.push(case.keep());
+        }
+    }
+
+    fn tallies(&self) -> [&Tally; 11] {
         [
             &self.freedoms,
             &self.metadata_names,
             &self.limits,
+            &self.pairs,
+            &self.verdicts,
             &self.ask_freedoms,
             &self.outcomes,
+            &self.both,
             &self.lent,
             &self.choices,
             &self.clauses,
         ]
     }
 
+    fn tallies_mut(&mut self) -> [&mut Tally; 11] {
+        [
+            &mut self.freedoms,
+            &mut self.metadata_names,
+            &mut self.limits,
+            &mut self.pairs,
+            &mut self.verdicts,
+            &mut self.ask_freedoms,
+            &mut self.outcomes,
+            &mut self.both,
+            &mut self.lent,
+            &mut self.choices,
+            &mut self.clauses,
+        ]
+    }
+
     /// No difference, and every name reached unless it is a replay.
     pub fn passed(&self, replay: bool) -> bool {
         let all_reached = self.tallies().iter().all(|t| t.missing().is_empty());
-        self.differences.is_empty() && (replay || all_reached && self.enough_declared())
+        let enough = self.enough_declared() && self.as_much_under_each();
+        self.differences.is_empty() && (replay || all_reached && enough)
+    }
+
+    /// Was as much compared under 1.02 as under 1.2, and each of it at all?
+    fn as_much_under_each(&self) -> bool {
+        let [newer, older] = self.compared.map(|compared| compared.counts());
+        let of_each = newer.iter().zip(older);
+        of_each.into_iter().all(|(n, o)| *n > 0 && o >= *n) && self.all_choices > 0
     }
 
     fn enough_declared(&self) -> bool {
@@ -279,9 +372,11 @@ impl Report {
     }
 }
 
-/// The folder of failing cases, under the repository's target/.
-fn folder() -> PathBuf {
-    PathBuf::from(env!("CARGO_MANIFEST_DIR")).join("../../target/compare")
+/// Leaves as many as are printed; how many were more.
+fn cut<T>(all: &mut Vec<T>) -> u64 {
+    let more = all.len().saturating_sub(MOST_PRINTED);
+    all.truncate(MOST_PRINTED);
+    more as u64
 }
 
 impl fmt::Display for Report {
@@ -289,16 +384,20 @@ impl fmt::Display for Report {
         for tally in self.tallies() {
             writeln!(f, "{tally}")?;
         }
-        let files = self.sound + self.damaged + self.pairs + self.scrambled;
+        let pairs: u64 = self.pairs.counts().map(|(_, count)| count).sum();
+        let files = self.sound + self.damaged + pairs + self.scrambled;
         writeln!(
             f,
-            "{files} files: {} sound, {} damaged, {} with two damages, {} scrambled",
-            self.sound, self.damaged, self.pairs, self.scrambled
+            "{files} files: {} sound, {} damaged, {pairs} with two damages, {} scrambled",
+            self.sound, self.damaged, self.scrambled
         )?;
+        for (release, compared) in Release::ALL.into_iter().zip(&self.compared) {
+            writeln!(f, "under {}: {compared}", name(release))?;
+        }
         writeln!(
             f,
-            "{} questions to both composers, {} for what is selected, {} tables of all records, {} calls of the library in all",
-            self.questions, self.chosen, self.tables, self.calls
+            "{} questions under 1.02 with each choice of masks",
+            self.all_choices
         )?;
         writeln!(f, "metadata of drawn tokens: {}", self.tokens)?;
         writeln!(f, "metadata by what they hold: {}", self.foretold)?;
@@ -313,6 +412,9 @@ impl fmt::Display for Report {
                 f,
                 "NOT REACHED: one in {LEAST_DECLARED} of drawn tokens declares a container"
             )?;
+        }
+        if !self.as_much_under_each() {
+            writeln!(f, "NOT REACHED: as much under 1.02 as under 1.2")?;
         }
         for name in self.tallies().iter().flat_map(|t| t.missing()) {
             writeln!(f, "NOT REACHED: {name}")?;

@@ -4,6 +4,7 @@ use crate::calls::{self, AttachmentRecord};
 use crate::calls::{ATTACHMENT_FILE_TYPE, ATTACHMENT_GUID, ATTACHMENT_NAME};
 use crate::reader::summary;
 use crate::refusal::Refusal;
+use crate::scan::Scan;
 use std::ops::Range;
 
 /// The record of an attachment.
@@ -58,13 +59,14 @@ fn text(bytes: &[u8]) -> String {
 /// directory from 0.
 ///
 /// Refusals: those of [`judge`](crate::judge); 24 where there is no such entry.
-pub fn attachment(file: &[u8], entry: u64) -> Result<Attachment, Refusal> {
+pub fn attachment<'a>(scan: impl Into<Scan<'a>>, entry: u64) -> Result<Attachment, Refusal> {
+    let (file, release) = scan.into().plain();
     let mut record = AttachmentRecord {
         guid: [0; ATTACHMENT_GUID],
         file_type: [0; ATTACHMENT_FILE_TYPE],
         name: [0; ATTACHMENT_NAME],
     };
-    let span = calls::attachment(file, entry, &mut record).result()?;
+    let span = calls::attachment(file, release, entry, &mut record).result()?;
     Ok(Attachment {
         entry,
         guid: record.guid,
@@ -78,9 +80,10 @@ pub fn attachment(file: &[u8], entry: u64) -> Result<Attachment, Refusal> {
 /// judged for each.
 ///
 /// Refusals: those of [`judge`](crate::judge).
-pub fn attachments(file: &[u8]) -> Result<Vec<Attachment>, Refusal> {
-    let count = summary(file)?.attachments;
-    (0..count).map(|entry| attachment(file, entry)).collect()
+pub fn attachments<'a>(scan: impl Into<Scan<'a>>) -> Result<Vec<Attachment>, Refusal> {
+    let scan = scan.into();
+    let count = summary(scan)?.attachments;
+    (0..count).map(|entry| attachment(scan, entry)).collect()
 }
 
 #[cfg(test)]

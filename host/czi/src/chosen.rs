@@ -3,6 +3,7 @@
 use crate::calls;
 use crate::question::Question;
 use crate::refusal::Refusal;
+use crate::scan::Scan;
 use crate::MOST_TILES;
 
 /// What a question makes of a tile.
@@ -37,9 +38,10 @@ const UNMARKED: u8 = 0xFF;
 /// too; one with a side of 0 shares a pixel with no tile.
 ///
 /// Refusals: those of [`judge`](crate::judge).
-pub fn chosen(file: &[u8], question: &Question) -> Result<Chosen, Refusal> {
+pub fn chosen<'a>(scan: impl Into<Scan<'a>>, question: &Question) -> Result<Chosen, Refusal> {
+    let (file, release) = scan.into().plain();
     let mut marks = [UNMARKED; MOST_TILES];
-    let counts = calls::chosen(file, &question.plain(), &mut marks).result()?;
+    let counts = calls::chosen(file, release, &question.plain(), &mut marks).result()?;
     // Those past the tiles stay as they were.
     let named = |mark: &u8| match mark {
         0 => Some(Mark::NotSelected),

@@ -4,10 +4,11 @@
 extern "C" {
     pub fn czi_version() -> u32;
     pub fn czi_pixel_bytes(pixel_type: u32) -> u32;
-    pub fn czi_judge(file: *const u8, file_len: usize, place: *mut u64) -> u32;
+    pub fn czi_judge(file: *const u8, file_len: usize, release: u32, place: *mut u64) -> u32;
     pub fn czi_tile_pixels(
         file: *const u8,
         file_len: usize,
+        release: u32,
         entry: u64,
         place: *mut u64,
         start: *mut u64,
@@ -16,6 +17,7 @@ extern "C" {
     pub fn czi_tile_metadata(
         file: *const u8,
         file_len: usize,
+        release: u32,
         entry: u64,
         place: *mut u64,
         start: *mut u64,
@@ -24,6 +26,7 @@ extern "C" {
     pub fn czi_tile_attachment(
         file: *const u8,
         file_len: usize,
+        release: u32,
         entry: u64,
         place: *mut u64,
         start: *mut u64,
@@ -32,6 +35,7 @@ extern "C" {
     pub fn czi_attachment_data(
         file: *const u8,
         file_len: usize,
+        release: u32,
         entry: u64,
         place: *mut u64,
         start: *mut u64,
@@ -40,6 +44,7 @@ extern "C" {
     pub fn czi_attachment(
         file: *const u8,
         file_len: usize,
+        release: u32,
         entry: u64,
         place: *mut u64,
         guid: *mut u8,
@@ -51,6 +56,7 @@ extern "C" {
     pub fn czi_common_xml(
         file: *const u8,
         file_len: usize,
+        release: u32,
         place: *mut u64,
         start: *mut u64,
         length: *mut u64,
@@ -58,6 +64,7 @@ extern "C" {
     pub fn czi_common_attachment(
         file: *const u8,
         file_len: usize,
+        release: u32,
         place: *mut u64,
         start: *mut u64,
         length: *mut u64,
@@ -65,6 +72,7 @@ extern "C" {
     pub fn czi_tile(
         file: *const u8,
         file_len: usize,
+        release: u32,
         entry: u64,
         place: *mut u64,
         numbers: *mut u64,
@@ -73,6 +81,7 @@ extern "C" {
     pub fn czi_tiles(
         file: *const u8,
         file_len: usize,
+        release: u32,
         numbers: *mut u64,
         numbers_len: usize,
         starts: *mut i32,
@@ -83,6 +92,7 @@ extern "C" {
     pub fn czi_dimension(
         file: *const u8,
         file_len: usize,
+        release: u32,
         entry: u64,
         dimension: u64,
         place: *mut u64,
@@ -95,6 +105,7 @@ extern "C" {
     pub fn czi_dimensions(
         file: *const u8,
         file_len: usize,
+        release: u32,
         numbers: *mut u64,
         numbers_len: usize,
         starts: *mut i32,
@@ -105,6 +116,7 @@ extern "C" {
     pub fn czi_summary(
         file: *const u8,
         file_len: usize,
+        release: u32,
         place: *mut u64,
         bytes: *mut u64,
         segments: *mut u64,
@@ -116,10 +128,11 @@ extern "C" {
         right: *mut i32,
         bottom: *mut i32,
     ) -> u32;
-    pub fn czi_list(file: *const u8, file_len: usize, text: *mut u8) -> u64;
+    pub fn czi_list(file: *const u8, file_len: usize, release: u32, text: *mut u8) -> u64;
     pub fn czi_compose_plain(
         file: *const u8,
         file_len: usize,
+        release: u32,
         starts: *const i32,
         starts_len: usize,
         any_scene: u32,
@@ -142,6 +155,7 @@ extern "C" {
     pub fn czi_compose_quick(
         file: *const u8,
         file_len: usize,
+        release: u32,
         starts: *const i32,
         starts_len: usize,
         any_scene: u32,
@@ -164,6 +178,7 @@ extern "C" {
     pub fn czi_chosen(
         file: *const u8,
         file_len: usize,
+        release: u32,
         starts: *const i32,
         starts_len: usize,
         any_scene: u32,

@@ -7,6 +7,8 @@
 //! refuses, all of them refuse alike (but that [`list`] looks at the length
 //! before); [`tiles`] and [`all_records`] give every record for one judgement or
 //! two. A [`Refusal`] has a number of the table in docs/RULES.md and a place.
+//! A file is judged by release 1.2 of the format, or by the one that a [`Scan`] of
+//! it says.
 //!
 //! ```
 //! # fn main() -> Result<(), Box<dyn std::error::Error>> {
@@ -40,10 +42,11 @@ mod question;
 mod reader;
 mod records;
 mod refusal;
+mod scan;
 mod tiles;
 
 /// `CZI_VERSION` of the header that this crate was written for.
-pub const VERSION: u32 = 1;
+pub const VERSION: u32 = 2;
 
 /// No accepted file has more tiles; more are refused as 10.
 pub const MOST_TILES: usize = 4096;
@@ -62,4 +65,5 @@ pub use reader::{
 };
 pub use records::{Dimension, Edges, Extent, Mask, Summary, Tile};
 pub use refusal::{Reason, Refusal};
+pub use scan::{Release, Scan};
 pub use tiles::{all_records, dimensions, tiles, Record, Records, Tiles};

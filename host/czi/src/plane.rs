@@ -3,6 +3,7 @@
 use crate::compose::compose_quick;
 use crate::question::Question;
 use crate::refusal::{Reason, Refusal};
+use crate::scan::Scan;
 use std::fmt;
 
 /// A composed plane.
@@ -73,15 +74,16 @@ impl std::error::Error for NoPlane {}
 ///
 /// Refusals: those of [`compose_plain`](crate::compose_plain) but 22; 1 to 21
 /// before memory is taken.
-pub fn compose(file: &[u8], question: &Question) -> Result<Plane, NoPlane> {
+pub fn compose<'a>(scan: impl Into<Scan<'a>>, question: &Question) -> Result<Plane, NoPlane> {
+    let scan = scan.into();
     // With nothing lent: 22 is all that is left to refuse before memory is needed.
-    match compose_quick(file, question, &mut [], &mut []) {
+    match compose_quick(scan, question, &mut [], &mut []) {
         Err(refusal) if refusal.reason != Reason::Lent => return Err(refusal.into()),
         _ => {}
     }
     let mut target = memory(question.target_length())?;
     let mut map = memory(question.map_length())?;
-    let counted = compose_quick(file, question, &mut target, &mut map)?;
+    let counted = compose_quick(scan, question, &mut target, &mut map)?;
     Ok(Plane {
         width: question.width,
         height: question.height,

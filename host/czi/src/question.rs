@@ -18,7 +18,7 @@ pub enum Scene {
 pub enum Masks {
     /// Not chosen: off.
     NotChosen,
-    /// Invalid pixels of a tile are not given.
+    /// Invalid pixels of a tile are not given. Under release 1.02 no tile has a mask.
     On,
     /// Masks are left aside.
     Off,

@@ -6,6 +6,7 @@ use crate::calls::{DIMENSION_NUMBERS, TILE_NUMBERS, TILE_STARTS};
 use crate::reader::tile;
 use crate::records::{Dimension, Tile};
 use crate::refusal::Refusal;
+use crate::scan::Scan;
 use crate::MOST_TILES;
 use std::vec::IntoIter;
 
@@ -59,18 +60,19 @@ listed!(
 /// once.
 ///
 /// Refusals: those of [`judge`](crate::judge).
-pub fn tiles(file: &[u8]) -> Result<Tiles, Refusal> {
-    tile_records(file).map(|records| Tiles(records.into_iter()))
+pub fn tiles<'a>(scan: impl Into<Scan<'a>>) -> Result<Tiles, Refusal> {
+    tile_records(scan.into()).map(|records| Tiles(records.into_iter()))
 }
 
 /// The records of all tiles with all of their dimensions, in the order of the
 /// directory. The file is judged twice, whatever it has.
 ///
 /// Refusals: those of [`judge`](crate::judge).
-pub fn all_records(file: &[u8]) -> Result<Records, Refusal> {
-    let tiles = tile_records(file)?;
+pub fn all_records<'a>(scan: impl Into<Scan<'a>>) -> Result<Records, Refusal> {
+    let scan = scan.into();
+    let tiles = tile_records(scan)?;
     let rows = tiles.iter().map(|tile| tile.dimensions as usize).sum();
-    let mut dimensions = dimension_records(file, rows)?.into_iter();
+    let mut dimensions = dimension_records(scan, rows)?.into_iter();
     let record = |tile: Tile| Record {
         dimensions: dimensions
             .by_ref()
@@ -87,19 +89,21 @@ pub fn all_records(file: &[u8]) -> Result<Records, Refusal> {
 /// judged twice.
 ///
 /// Refusals: those of [`judge`](crate::judge); 24 where there is no such entry.
-pub fn dimensions(file: &[u8], entry: u64) -> Result<Vec<Dimension>, Refusal> {
-    tile(file, entry)?;
-    let rows = dimension_records(file, MOST_TILES * MOST_DIMENSIONS)?;
+pub fn dimensions<'a>(scan: impl Into<Scan<'a>>, entry: u64) -> Result<Vec<Dimension>, Refusal> {
+    let scan = scan.into();
+    tile(scan, entry)?;
+    let rows = dimension_records(scan, MOST_TILES * MOST_DIMENSIONS)?;
     let own = rows.into_iter().filter(|(number, _)| *number == entry);
     Ok(own.map(|(_, dimension)| dimension).collect())
 }
 
 /// Every tile record. Zeros that are not written take no memory, so there is room
 /// for as many as any file has, and the file is judged once.
-fn tile_records(file: &[u8]) -> Result<Vec<Tile>, Refusal> {
+fn tile_records(scan: Scan) -> Result<Vec<Tile>, Refusal> {
+    let (file, release) = scan.plain();
     let mut numbers = vec![0; TILE_NUMBERS * MOST_TILES];
     let mut starts = vec![0; TILE_STARTS * MOST_TILES];
-    let count = calls::tiles(file, &mut numbers, &mut starts).result()?;
+    let count = calls::tiles(file, release, &mut numbers, &mut starts).result()?;
     let (numbers, _) = numbers.as_chunks();
     let (starts, _) = starts.as_chunks();
     let rows = numbers.iter().zip(starts).take(count as usize);
@@ -114,10 +118,11 @@ fn tile_records(file: &[u8]) -> Result<Vec<Tile>, Refusal> {
 }
 
 /// Every dimension record with its entry's number; there are at most so many.
-fn dimension_records(file: &[u8], rows: usize) -> Result<Vec<(u64, Dimension)>, Refusal> {
+fn dimension_records(scan: Scan, rows: usize) -> Result<Vec<(u64, Dimension)>, Refusal> {
+    let (file, release) = scan.plain();
     let mut numbers = vec![0; DIMENSION_NUMBERS * rows];
     let mut starts = vec![0; rows];
-    let count = calls::dimensions(file, &mut numbers, &mut starts).result()?;
+    let count = calls::dimensions(file, release, &mut numbers, &mut starts).result()?;
     let (numbers, _) = numbers.as_chunks::<DIMENSION_NUMBERS>();
     let rows = numbers.iter().zip(starts).take(count as usize);
     let named = |(numbers, start): (&[u64; DIMENSION_NUMBERS], i32)| {

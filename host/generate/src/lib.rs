@@ -23,6 +23,7 @@ mod segment;
 mod sound;
 mod tally;
 mod tile;
+mod verdicts;
 
 pub use draft::sound;
 pub use format::{bytes_a_pixel, Kind, MASK_GUID, PIXEL_TYPES, SECTION};
@@ -35,3 +36,4 @@ pub use segment::{SegmentPlace, HEADER};
 pub use sound::{AttachmentPlace, EntryPlace, MetadataPlace, Sound};
 pub use tally::Tally;
 pub use tile::{Attached, Chunk, Dimension, MaskShape, Tile};
+pub use verdicts::{verdicts, VERDICTS};

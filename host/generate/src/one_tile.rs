@@ -110,17 +110,18 @@ impl Default for OneTile {
 mod tests {
     use super::OneTile;
     use crate::format::SECTION;
-    use reference::{judge, Refusal};
+    use reference::{judge, Refusal, Release};
 
     #[test]
     fn metadata_and_attachment_are_replaced() {
         let mut file = OneTile::new();
         let refused = Refusal::new(17, OneTile::attachment_at(SECTION));
-        let judged = judge(file.with(SECTION, &OneTile::NO_CHUNK));
-        assert_eq!(judged.err(), Some(refused));
+        let bytes = file.with(SECTION, &OneTile::NO_CHUNK);
+        assert_eq!(judge(bytes, Release::V1_2).err(), Some(refused));
+        assert_eq!(judge(bytes, Release::V1_02).err(), None);
         for (metadata, masked) in [(SECTION, true), (b"", false), (b"text", false)] {
             let bytes = file.with(metadata, &OneTile::mask([0xF0, 0x0F]));
-            let judged = judge(bytes).expect("an accepted file");
+            let judged = judge(bytes, Release::V1_2).expect("an accepted file");
             let tile = judged.tile(0).expect("its tile");
             assert_eq!(tile.metadata.of(bytes), metadata);
             assert_eq!(tile.attachment.start, OneTile::attachment_at(metadata));

@@ -48,6 +48,14 @@ impl Tally {
         }
     }
 
+    /// Adds the counts of another tally of the same names.
+    pub fn join(&mut self, other: &Tally) {
+        for (row, more) in self.rows.iter_mut().zip(&other.rows) {
+            assert_eq!(row.name, more.name, "{}", self.title);
+            row.count += more.count;
+        }
+    }
+
     /// The names that were reached not once and are not external.
     pub fn missing(&self) -> Vec<&'static str> {
         let missing = |row: &&Row| row.count == 0 && !row.external;

@@ -4,11 +4,15 @@ A file is lent as its bytes: bytes, a bytearray, a memoryview, an mmap or a nump
 changes a byte of it. Any bytes and any number get an answer: what is refused raises Refused, with the number, the place and
 the words of the rule. Each call judges the whole file first; tiles and all_records ask for all of them at once.
 
+A file is judged by release "1.2" of the format, or by "1.02" where release says so: then no tile has a mask, and 17 and 18 are
+never raised. "1.02" is for a file that was archived under it and no other, whose masks would be forgotten.
+
     import czi, mmap
     with open("scan.czi", "rb") as scan:
         file = mmap.mmap(scan.fileno(), 0, access=mmap.ACCESS_READ)
     print(czi.summary(file).box)
     print(czi.count(file, masks=True).covered)
+    print(czi.count(file, masks=True, release="1.02").covered)
 
 While a call runs nobody may change what it was lent, another thread or program neither: a mapped file that is cut meanwhile
 ends the program by SIGBUS.

@@ -6,7 +6,11 @@ from ctypes import POINTER, c_int32, c_size_t, c_uint32, c_uint64, c_void_p
 from pathlib import Path
 
 # CZI_VERSION of the header that this was written for; the soname has it too.
-VERSION = 1
+VERSION = 2
+
+# The numbers of the releases.
+RELEASE_1_2 = 0
+RELEASE_1_02 = 1
 
 # The lengths of the arrays that the library writes.
 TEXT = 192
@@ -22,34 +26,35 @@ MOST_TILES = 4096
 MOST_DIMENSIONS = 16
 
 _LENT = [c_void_p, c_size_t]
+_FILE = [*_LENT, c_uint32]
 _U64 = POINTER(c_uint64)
 _I32 = POINTER(c_int32)
 _PART = [_U64, _U64, _U64]
-_TABLE = [*_LENT, _U64, c_size_t, _I32, c_size_t, _U64, _U64]
+_TABLE = [*_FILE, _U64, c_size_t, _I32, c_size_t, _U64, _U64]
 _COMPOSER = [
-    *_LENT, *_LENT, c_uint32, c_uint32, *_LENT, c_int32, c_int32, c_uint32, c_uint32, c_uint32, *_LENT, *_LENT, *_PART]
+    *_FILE, *_LENT, c_uint32, c_uint32, *_LENT, c_int32, c_int32, c_uint32, c_uint32, c_uint32, *_LENT, *_LENT, *_PART]
 
 # What each function returns and takes.
 SIGNATURES = {
     "czi_version": (c_uint32, []),
     "czi_pixel_bytes": (c_uint32, [c_uint32]),
-    "czi_judge": (c_uint32, [*_LENT, _U64]),
-    "czi_tile_pixels": (c_uint32, [*_LENT, c_uint64, *_PART]),
-    "czi_tile_metadata": (c_uint32, [*_LENT, c_uint64, *_PART]),
-    "czi_tile_attachment": (c_uint32, [*_LENT, c_uint64, *_PART]),
-    "czi_attachment_data": (c_uint32, [*_LENT, c_uint64, *_PART]),
-    "czi_attachment": (c_uint32, [*_LENT, c_uint64, _U64, c_void_p, c_void_p, c_void_p, _U64, _U64]),
-    "czi_common_xml": (c_uint32, [*_LENT, *_PART]),
-    "czi_common_attachment": (c_uint32, [*_LENT, *_PART]),
-    "czi_tile": (c_uint32, [*_LENT, c_uint64, _U64, _U64, _I32]),
+    "czi_judge": (c_uint32, [*_FILE, _U64]),
+    "czi_tile_pixels": (c_uint32, [*_FILE, c_uint64, *_PART]),
+    "czi_tile_metadata": (c_uint32, [*_FILE, c_uint64, *_PART]),
+    "czi_tile_attachment": (c_uint32, [*_FILE, c_uint64, *_PART]),
+    "czi_attachment_data": (c_uint32, [*_FILE, c_uint64, *_PART]),
+    "czi_attachment": (c_uint32, [*_FILE, c_uint64, _U64, c_void_p, c_void_p, c_void_p, _U64, _U64]),
+    "czi_common_xml": (c_uint32, [*_FILE, *_PART]),
+    "czi_common_attachment": (c_uint32, [*_FILE, *_PART]),
+    "czi_tile": (c_uint32, [*_FILE, c_uint64, _U64, _U64, _I32]),
     "czi_tiles": (c_uint32, _TABLE),
-    "czi_dimension": (c_uint32, [*_LENT, c_uint64, c_uint64, _U64, _U64, _I32, _U64, POINTER(c_uint32), _U64]),
+    "czi_dimension": (c_uint32, [*_FILE, c_uint64, c_uint64, _U64, _U64, _I32, _U64, POINTER(c_uint32), _U64]),
     "czi_dimensions": (c_uint32, _TABLE),
-    "czi_summary": (c_uint32, [*_LENT, *6 * [_U64], *4 * [_I32]]),
-    "czi_list": (c_uint64, [*_LENT, c_void_p]),
+    "czi_summary": (c_uint32, [*_FILE, *6 * [_U64], *4 * [_I32]]),
+    "czi_list": (c_uint64, [*_FILE, c_void_p]),
     "czi_compose_plain": (c_uint32, _COMPOSER),
     "czi_compose_quick": (c_uint32, _COMPOSER),
-    "czi_chosen": (c_uint32, [*_LENT, *_LENT, c_uint32, c_int32, c_int32, c_uint32, c_uint32, *_LENT, *_PART]),
+    "czi_chosen": (c_uint32, [*_FILE, *_LENT, c_uint32, c_int32, c_int32, c_uint32, c_uint32, *_LENT, *_PART]),
 }
 
 

@@ -15,16 +15,18 @@ _WINDOW = 20
 
 class Count(NamedTuple):
     """What was counted, and into how many windows it was cut: their counts add up, which is proved. And how many tiles were
-    selected, and how many of these meet the window: fewer than the file has where a scene or a channel was forgotten."""
+    selected, and how many of these meet the window: fewer than the file has where a scene or a channel was forgotten. And by
+    which release the file was judged, "1.2" or "1.02"."""
 
     covered: int
     pixels: int
     windows: int
     selected: int
     meeting: int
+    release: str
 
 
-def count(file, window=None, pixel_type=None, *, starts=None, scene=0, masks=False, memory=512 << 20):
+def count(file, window=None, pixel_type=None, *, starts=None, scene=0, masks=False, memory=512 << 20, release="1.2"):
     """Counts the covered pixels of a window, which may have sides of over 65,536: it is cut, and the counts are added.
     Windows that no selected tile meets have none, which is proved, and are not composed.
 
@@ -37,21 +39,21 @@ def count(file, window=None, pixel_type=None, *, starts=None, scene=0, masks=Fal
     """
     masks_number(masks)
     if window is None:
-        box = summary(file).box
+        box = summary(file, release=release).box
         if box is None:
-            found = chosen(file, (0, 0, 0, 0), starts=starts, scene=scene)
+            found = chosen(file, (0, 0, 0, 0), starts=starts, scene=scene, release=release)
             if pixel_type is not None:
                 # Of a type that is not listed 21 is said here too.
-                refuse_early(file, (0, 0, 1, 1), pixel_type, starts, scene)
-            return Count(0, 0, 0, found.selected, found.meeting)
+                refuse_early(file, (0, 0, 1, 1), pixel_type, starts, scene, release)
+            return Count(0, 0, 0, found.selected, found.meeting, release)
         window = box.window
-    met = Met(file, window, starts, scene)
+    met = Met(file, window, starts, scene, release)
     given = pixel_type is not None
     if not given:
         pixel_type = PixelType.Gray8 if met.pixel_type is None else met.pixel_type
     for end in ends(*window):
         try:
-            refuse_early(file, end, pixel_type, starts, scene)
+            refuse_early(file, end, pixel_type, starts, scene, release)
         except Refused as refused:
             if refused.number != _WINDOW:
                 raise
@@ -61,13 +63,14 @@ def count(file, window=None, pixel_type=None, *, starts=None, scene=0, masks=Fal
     cut = Cut(*window, pixel_bytes(pixel_type), memory)
     pixels, covered = cut.wide * cut.high, 0
     target = map_ = None
-    for part in cut.met(lambda block: chosen(file, block, starts=starts, scene=scene).meeting != 0):
+    for part in cut.met(lambda block: chosen(file, block, starts=starts, scene=scene, release=release).meeting != 0):
         if target is None:
             # For the largest part: the others take that memory again.
             target, map_ = bytearray(pixels * pixel_bytes(pixel_type)), bytearray((pixels + 7) // 8)
-        plane = compose(file, part, pixel_type, starts=starts, scene=scene, masks=masks, target=target, map=map_)
+        plane = compose(file, part, pixel_type, starts=starts, scene=scene, masks=masks, target=target, map=map_,
+                        release=release)
         covered += plane.covered
-    return Count(covered, cut.width * cut.height, cut.columns * cut.rows, met.chosen.selected, met.chosen.meeting)
+    return Count(covered, cut.width * cut.height, cut.columns * cut.rows, met.chosen.selected, met.chosen.meeting, release)
 
 
 def ends(left, top, width, height):

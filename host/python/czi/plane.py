@@ -29,10 +29,11 @@ class Plane:
     map: object         # one bit a pixel in the same order, high bit first: 1 where a tile gave the pixel
     covered: int        # how many pixels a tile gave: the map's ones
     stored: int         # how many pixels the composer stored
+    release: str        # by which the file was judged: "1.2" or "1.02"
 
 
 def compose(file, window=None, pixel_type=None, *, starts=None, scene=0, masks=False, background=None, target=None,
-            map=None, composer="quick"):
+            map=None, composer="quick", release="1.2"):
     """Composes a window of the plane: each pixel from the topmost selected tile that gives it, else the background.
 
     window       left, top, width, height; the sides are 1 to 65,536. The summary's box unless given.
@@ -44,6 +45,8 @@ def compose(file, window=None, pixel_type=None, *, starts=None, scene=0, masks=F
     background   one pixel; zeros unless given
     target, map  writable buffers, of any type and at least long enough; bytearrays unless given
     composer     "quick" stores each pixel once, "plain" all that the tiles give; both leave the same
+    release      by which the file is judged: "1.2", or "1.02", under which no tile has a mask, so that masks makes no difference.
+                 "1.02" is for a file that was archived under it and no other, whose masks would be forgotten.
 
     Raises Refused, 20 to 23 beside those of the file; then no byte of target and map was changed. Two types among the tiles
     in the window are 23 too where pixel_type is not given.
@@ -51,8 +54,8 @@ def compose(file, window=None, pixel_type=None, *, starts=None, scene=0, masks=F
     masks_number(masks)
     if composer not in _COMPOSERS:
         raise ValueError(f"composer is {composer!r}, which is neither 'plain' nor 'quick'")
-    window = tuple(window_of(file) if window is None else window)
-    met = Met(file, window, starts, scene)
+    window = tuple(window_of(file, release) if window is None else window)
+    met = Met(file, window, starts, scene, release)
     given, pixel_type = pixel_type is not None, met.pixel_type if pixel_type is None else pixel_type
     if pixel_type is None:
         raise ValueError("the file has no tiles, and so no pixel type: pixel_type has to be given")
@@ -61,36 +64,36 @@ def compose(file, window=None, pixel_type=None, *, starts=None, scene=0, masks=F
     question = _question(window, pixel_type, starts, scene, masks)
     call = _COMPOSERS[composer]
     if target is None or map is None:
-        _refuse_early(call, file, question, background)
+        _refuse_early(call, file, release, question, background)
         if target is None and map is None:
             # Nothing is lent that could be too short, which would be said before.
             met.refuse_another(pixel_type, given)
         pixels = window[2] * window[3]
         target = bytearray(pixels * len(memoryview(background).cast("B"))) if target is None else target
         map = bytearray((pixels + 7) // 8) if map is None else map
-    covered, stored = _compose(call, file, question, background, target, map)
-    return Plane(window, pixel_type, target, map, covered, stored)
+    covered, stored = _compose(call, file, release, question, background, target, map)
+    return Plane(window, pixel_type, target, map, covered, stored, release)
 
 
-def chosen(file, window=None, *, starts=None, scene=0):
+def chosen(file, window=None, *, starts=None, scene=0, release="1.2"):
     """Which tiles a question selects, and which of them share a pixel with its window, as the composers have it.
 
     All is as for compose, but that any window may be asked about, with sides of over 65,536 too; one with a side of 0
     shares a pixel with no tile. Masks do not enter.
     """
-    corner, sides = _window(window_of(file) if window is None else window)
+    corner, sides = _window(window_of(file, release) if window is None else window)
     marks = bytearray([_UNMARKED]) * MOST_TILES
     selected, meeting = c_uint64(), c_uint64()
     with lent(marks, True) as bytes_:
         asked = (*_starts(starts, scene), int(scene == "any"), *corner, *sides, *bytes_)
-        ask(library.czi_chosen, file, asked, (byref(selected), byref(meeting)))
+        ask(library.czi_chosen, file, release, asked, (byref(selected), byref(meeting)))
     # Those past the tiles stay as they were.
     return Chosen(selected.value, meeting.value, [Mark(mark) for mark in marks if mark != _UNMARKED])
 
 
-def window_of(file):
+def window_of(file, release):
     """The summary's box as a window."""
-    box = summary(file).box
+    box = summary(file, release=release).box
     if box is None:
         raise ValueError("no tile of the file has a place in a plane: a window has to be given")
     return box.window
@@ -99,9 +102,9 @@ def window_of(file):
 class Met:
     """What a question selects of a file, and the tiles that meet its window, of any sides, in the order of the directory."""
 
-    def __init__(self, file, window, starts, scene):
-        self.chosen = chosen(file, window, starts=starts, scene=scene)
-        every = tiles(file)
+    def __init__(self, file, window, starts, scene, release):
+        self.chosen = chosen(file, window, starts=starts, scene=scene, release=release)
+        every = tiles(file, release=release)
         self.tiles = [tile for tile, mark in zip(every, self.chosen.marks) if mark == Mark.Meets]
         self._first = (self.tiles or every)[:1]
 
@@ -156,27 +159,27 @@ def _starts(starts, scene):
     return letters, len(letters)
 
 
-def refuse_early(file, window, pixel_type, starts, scene):
+def refuse_early(file, window, pixel_type, starts, scene, release):
     """Raises what is refused of that window whatever is lent."""
     question = _question(window, pixel_type, starts, scene, False)
-    _refuse_early(_COMPOSERS["quick"], file, question, bytes(pixel_bytes(pixel_type)))
+    _refuse_early(_COMPOSERS["quick"], file, release, question, bytes(pixel_bytes(pixel_type)))
 
 
-def _refuse_early(call, file, question, background):
+def _refuse_early(call, file, release, question, background):
     """With nothing lent: what else is refused is refused before memory is taken."""
     try:
-        _compose(call, file, question, background, bytearray(), bytearray())
+        _compose(call, file, release, question, background, bytearray(), bytearray())
     except Refused as refused:
         if refused.number != _TOO_SHORT:
             raise
 
 
-def _compose(call, file, question, background, target, map):
+def _compose(call, file, release, question, background, target, map):
     starts, before, behind = question
     covered, stored = c_uint64(), c_uint64()
     with lent(file) as bytes_, lent(background) as pixel, lent(target, True) as plane, lent(map, True) as bits:
         written = {"target": plane, "map": bits}
         apart(written, {**written, "file": bytes_, "background": pixel})
         asked = (*starts, *before, *pixel, *behind, *plane, *bits)
-        ask(call, file, asked, (byref(covered), byref(stored)))
+        ask(call, file, release, asked, (byref(covered), byref(stored)))
     return covered.value, stored.value

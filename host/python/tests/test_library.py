@@ -25,12 +25,13 @@ class Library(unittest.TestCase):
         self.assertEqual(importing(named), str(named))
 
     def test_another_interface_is_not_taken(self):
-        for source, said in [("unsigned czi_version(void) { return 2; }", "interface 2,"),
+        before = czi.VERSION - 1
+        for source, said in [(f"unsigned czi_version(void) {{ return {before}; }}", f"interface {before},"),
                              ("int other;", "interface without a number,")]:
             with tempfile.TemporaryDirectory() as folder:
                 other = Path(folder) / "libczi.so"
                 subprocess.run(["cc", "-shared", "-fPIC", "-x", "c", "-", "-o", other], input=source, text=True, check=True)
-                self.assertIn(f"ImportError: {other} has {said} and this package is for 1", importing(other))
+                self.assertIn(f"ImportError: {other} has {said} and this package is for {czi.VERSION}", importing(other))
 
 
 if __name__ == "__main__":

@@ -74,6 +74,7 @@ class Metadata(unittest.TestCase):
         self.assertEqual(declares_container(metadata), declares, metadata)
         wanted = (17, METADATA_AT + len(metadata) + 1) if declares else None
         self.assertEqual(refusal_of(czi.judge, one_tile(metadata)), wanted, metadata)
+        self.assertIsNone(refusal_of(czi.judge, one_tile(metadata), release="1.02"), metadata)
 
     def test_what_stands_beside_the_section(self):
         places = [0, 10, 28, 67, 86, 97]
@@ -94,6 +95,7 @@ class Metadata(unittest.TestCase):
         mask = bytes.fromhex("67EAE3CBFC5B2B49A16AECE378031448") + struct.pack("<i4iB", 17, 1, 1, 0, 1, 0)
         self.assertEqual(czi.compose(one_tile(SECTION, mask), masks=True).covered, 0)
         self.assertEqual(czi.compose(one_tile(MARKER, mask), masks=True).covered, 1)
+        self.assertEqual(czi.compose(one_tile(SECTION, mask), masks=True, release="1.02").covered, 1)
 
     def test_drawn_tokens(self):
         draw, declared = random.Random(1), 0

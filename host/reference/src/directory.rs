@@ -3,6 +3,7 @@
 use crate::bytes::int;
 use crate::entry::read_entry;
 use crate::refusal::{refuse_if, Refusal};
+use crate::release::Release;
 use crate::segment::{named, Kind, Segment};
 use crate::sub_block::read_sub_block;
 use crate::tile::Tile;
@@ -16,6 +17,7 @@ pub(crate) fn read_directory(
     file: &[u8],
     segments: &[Segment],
     directory: &Segment,
+    release: Release,
 ) -> Result<Vec<Tile>, Refusal> {
     refuse_if(128 > directory.room, 10, directory.position)?;
     let count = int(file, directory.content());
@@ -28,7 +30,7 @@ pub(crate) fn read_directory(
         // 14: entry names no walked segment of its kind.
         let segment = named(segments, entry.file_position, Kind::SubBlock)
             .ok_or(Refusal::new(14, entry.place))?;
-        let sub_block = read_sub_block(file, &segment, &entry)?;
+        let sub_block = read_sub_block(file, &segment, &entry, release)?;
         tiles.push(Tile::new(number, entry, sub_block));
     }
     Ok(tiles)

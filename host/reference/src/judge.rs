@@ -7,6 +7,7 @@ use crate::entry::Dimension;
 use crate::file_segment::read_file_segment;
 use crate::metadata::{read_metadata, Metadata};
 use crate::refusal::{refuse_if, Refusal};
+use crate::release::Release;
 use crate::segment::{walk, Segment};
 use crate::tile::Tile;
 
@@ -29,9 +30,9 @@ pub struct File<'a> {
     pub attachments: Vec<Attachment>,
 }
 
-/// Judges a file: 1; the segments; 6, 7, 8; 9; the directory; the metadata
-/// segment; the attachment directory.
-pub fn judge(bytes: &[u8]) -> Result<File<'_>, Refusal> {
+/// Judges a file by a release: 1; the segments; 6, 7, 8; 9; the directory; the
+/// metadata segment; the attachment directory.
+pub fn judge(bytes: &[u8], release: Release) -> Result<File<'_>, Refusal> {
     // 1: length 0, not a multiple of 32, or above 2^40.
     let length = bytes.len() as u64;
     refuse_if(
@@ -41,7 +42,7 @@ pub fn judge(bytes: &[u8]) -> Result<File<'_>, Refusal> {
     )?;
     let segments = walk(bytes)?;
     let names = read_file_segment(bytes, &segments)?;
-    let tiles = read_directory(bytes, &segments, &names.directory)?;
+    let tiles = read_directory(bytes, &segments, &names.directory, release)?;
     let metadata = match names.metadata {
         Some(segment) => read_metadata(bytes, &segment)?,
         None => Metadata::default(),

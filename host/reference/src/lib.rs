@@ -8,8 +8,8 @@
 //! the pixel. Nothing is read before the check that makes it readable, so an
 //! index out of bounds here (a panic) is a fault of the reading order.
 //!
-//! [`judge`] is the door: it answers a [`File`] or the first [`Refusal`], and
-//! all else is asked of the [`File`].
+//! [`judge`] is the door: it answers a [`File`] or the first [`Refusal`], by the
+//! [`Release`] that the caller says, and all else is asked of the [`File`].
 
 #![forbid(unsafe_code)]
 
@@ -27,6 +27,7 @@ mod metadata;
 mod pixel;
 mod question;
 mod refusal;
+mod release;
 mod segment;
 mod sub_block;
 mod tile;
@@ -42,6 +43,7 @@ pub use listing::{list, Edges, Summary, LISTING_LIMIT};
 pub use pixel::bytes_a_pixel;
 pub use question::{Chosen, Masks, Question};
 pub use refusal::Refusal;
+pub use release::Release;
 pub use segment::{Kind, Segment};
 pub use sub_block::fixed_part;
 pub use tile::{Extent, Tile};

@@ -2,6 +2,7 @@
 
 use crate::judge::{judge, File};
 use crate::refusal::Refusal;
+use crate::release::Release;
 use crate::tile::Tile;
 
 /// The longest input that is listed.
@@ -69,12 +70,12 @@ impl Summary {
     }
 }
 
-/// The listing of an input, that of a refusal too. 30 goes before all.
-pub fn list(input: &[u8]) -> String {
+/// The listing of an input by a release, that of a refusal too. 30 goes before all.
+pub fn list(input: &[u8], release: Release) -> String {
     let answer = if input.len() > LISTING_LIMIT {
         Err(Refusal::new(30, 0))
     } else {
-        judge(input).map(|file| file.summary())
+        judge(input, release).map(|file| file.summary())
     };
     match answer {
         Ok(summary) => summary.text(),

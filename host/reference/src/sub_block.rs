@@ -5,6 +5,7 @@ use crate::chunk::{read_chunks, Mask};
 use crate::declaration::declares_container;
 use crate::entry::Entry;
 use crate::refusal::{refuse_if, Refusal};
+use crate::release::Release;
 use crate::segment::Segment;
 
 /// What a sub-block holds.
@@ -25,6 +26,7 @@ pub(crate) fn read_sub_block(
     file: &[u8],
     segment: &Segment,
     entry: &Entry,
+    release: Release,
 ) -> Result<SubBlock, Refusal> {
     let content = segment.content();
     let fixed = fixed_part(entry.dimensions.len() as u64);
@@ -58,7 +60,13 @@ pub(crate) fn read_sub_block(
         start: pixels.end(),
         length: attachment_size as u64,
     };
-    let mask = if declares_container(metadata.of(file)) {
+    // Under 1.02 every sub-block attachment is plain bytes: 17 and 18 are never
+    // given, and where no tile has a mask, masks on means the same as masks off.
+    let is_container = match release {
+        Release::V1_2 => declares_container(metadata.of(file)),
+        Release::V1_02 => false,
+    };
+    let mask = if is_container {
         read_chunks(file, attachment)?
     } else {
         None

@@ -4,7 +4,7 @@
 mod build;
 
 use build::{file, mask_chunk, Tile, SECTION};
-use reference::{declares_container, judge};
+use reference::{declares_container, judge, Release};
 
 /// The section of the mask page, source document 002.
 const PAGE: &str = "\
@@ -339,10 +339,11 @@ fn only_declared_chunks_are_judged_and_masks_used() {
         let mut tile = tile.clone().with_container(&mask);
         tile.metadata = metadata.to_vec();
         let bytes = file(&[tile.clone()]);
-        let judged = judge(&bytes).unwrap();
+        let judged = judge(&bytes, Release::V1_2).unwrap();
         assert_eq!(judged.tile(0).unwrap().mask.is_some(), declares);
         tile.attachment = vec![0; 7];
-        let number = judge(&file(&[tile])).err().map(|refusal| refusal.number);
+        let refusal = judge(&file(&[tile]), Release::V1_2).err();
+        let number = refusal.map(|refusal| refusal.number);
         assert_eq!(number, declares.then_some(17));
     }
 }

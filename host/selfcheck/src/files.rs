@@ -2,26 +2,32 @@
 
 use crate::report::Report;
 use generate::{freedoms_of, EntryPlace, Random, Sound, LIMITS, LISTING_CLAUSES};
-use reference::{judge, list, Dimension, Extent, File, Mask, Tile, View};
+use reference::{judge, list, Dimension, Extent, File, Mask, Release, Tile, View};
 
-/// A sound file is accepted with all records, views and figures as planned.
+/// A sound file is accepted with all records, views and figures as planned, under
+/// both releases.
 pub fn check(sound: &Sound, report: &mut Report) {
     report.files += 1;
     report.bytes += sound.bytes.len() as u64;
     for freedom in freedoms_of(sound) {
         report.freedoms.add(freedom);
     }
-    report.compare("listing", list(&sound.bytes), listing(sound));
-    match judge(&sound.bytes) {
-        Ok(file) => check_file(&file, sound, report),
-        Err(refusal) => report.differs(format!("a sound file is {refusal}")),
+    for release in Release::ALL {
+        report.compare("listing", list(&sound.bytes, release), listing(sound));
+        match judge(&sound.bytes, release) {
+            Ok(file) => check_file(&file, sound, release, report),
+            Err(refusal) => report.differs(format!("a sound file is {refusal}")),
+        }
     }
 }
 
-fn check_file(file: &File, sound: &Sound, report: &mut Report) {
+fn check_file(file: &File, sound: &Sound, release: Release, report: &mut Report) {
     report.compare("tiles", file.tiles.len(), sound.entries.len());
     for (k, entry) in sound.entries.iter().enumerate() {
-        let tile = tile(k as u64, entry, sound);
+        let mut tile = tile(k as u64, entry, sound);
+        if release == Release::V1_02 {
+            tile.mask = None;
+        }
         report.compare("tile", file.tile(k as u64), Ok(&tile));
         let pixels = tile.pixels.of(&sound.bytes);
         report.compare("pixels", pixels, &sound.tile(entry).pixels);
@@ -151,18 +157,22 @@ pub fn check_limits(sound: &Sound, random: &mut Random, report: &mut Report) {
         let Some(bytes) = limit.reach(sound, random) else {
             continue;
         };
-        match judge(&bytes) {
-            Ok(_) => report.limits.add(limit.name),
-            Err(refusal) => report.differs(format!("{}: {refusal}", limit.name)),
+        let accepted = Release::ALL.map(|release| judge(&bytes, release).is_ok());
+        match accepted {
+            [true, true] => report.limits.add(limit.name),
+            _ => report.differs(format!("{}: accepted: {accepted:?}", limit.name)),
         }
-        let is_listed = list(&bytes).starts_with("bytes=");
-        report.compare(limit.name, is_listed, bytes.len() <= 65_536);
+        for release in Release::ALL {
+            let is_listed = list(&bytes, release).starts_with("bytes=");
+            report.compare(limit.name, is_listed, bytes.len() <= 65_536);
+        }
     }
     for clause in LISTING_CLAUSES {
         let Some(bytes) = clause.reach(sound, random) else {
             continue;
         };
-        if list(&bytes) == "refused=30\nplace=0\n" {
+        let is_30 = |release| list(&bytes, release) == "refused=30\nplace=0\n";
+        if Release::ALL.into_iter().all(is_30) {
             report.clauses.add(clause.name);
         } else {
             report.differs(clause.name);

@@ -3,6 +3,7 @@
 
 use generate::ask::{meets, selects, Ask};
 use generate::{bytes_a_pixel, Chunk, Sound, Tile};
+use reference::Release;
 
 /// What a painter leaves.
 #[derive(Clone, Debug, PartialEq, Eq)]
@@ -26,7 +27,7 @@ impl Painting {
 }
 
 /// Paints an answered question, the lowest tile first.
-pub fn paint(sound: &Sound, ask: &Ask) -> Painting {
+pub fn paint(sound: &Sound, ask: &Ask, release: Release) -> Painting {
     let question = &ask.question;
     let mut painting = Painting::lent(ask);
     let pixels = question.pixels() as usize;
@@ -40,24 +41,26 @@ pub fn paint(sound: &Sound, ask: &Ask) -> Painting {
     // Stable: at a tie the later entry stays later. None is less than any M.
     tiles.sort_by_key(|t| t.m());
     for tile in tiles {
-        paint_tile(&mut painting, ask, tile);
+        paint_tile(&mut painting, ask, tile, release);
     }
     let ones = |byte: &u8| u64::from(byte.count_ones());
     painting.covered = painting.map[..pixels.div_ceil(8)].iter().map(ones).sum();
     painting
 }
 
-fn paint_tile(painting: &mut Painting, ask: &Ask, tile: &Tile) {
+fn paint_tile(painting: &mut Painting, ask: &Ask, tile: &Tile, release: Release) {
     let question = &ask.question;
     let pixel = bytes_a_pixel(tile.pixel_type);
     let mask = tile.chunks().and_then(|c| c.iter().find(|k| k.is_mask()));
+    // Under 1.02 masks on means the same as masks off.
+    let masks_on = question.masks_on() && release == Release::V1_2;
     for (k, bytes) in tile.pixels.chunks(pixel).enumerate() {
         let (column, row) = (k % tile.x().size as usize, k / tile.x().size as usize);
         let x = i64::from(tile.x().start) + column as i64 - i64::from(question.left);
         let y = i64::from(tile.y().start) + row as i64 - i64::from(question.top);
         let in_window = (0..i64::from(question.width)).contains(&x)
             && (0..i64::from(question.height)).contains(&y);
-        let hidden = question.masks_on() && mask.is_some_and(|m| !is_valid(m, column, row));
+        let hidden = masks_on && mask.is_some_and(|m| !is_valid(m, column, row));
         if in_window && !hidden {
             let index = y as usize * question.width as usize + x as usize;
             painting.target[index * pixel..(index + 1) * pixel].copy_from_slice(bytes);

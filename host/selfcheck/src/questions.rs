@@ -7,32 +7,48 @@ use generate::ask::{
     Request, REQUEST_CLAUSES,
 };
 use generate::{Random, Sound};
-use reference::{judge, Chosen, File, Masks, Refusal};
+use reference::{judge, Chosen, File, Masks, Refusal, Release};
 
-/// Questions of every kind to one file.
+/// A file as it is read under a release.
+struct Read<'a> {
+    release: Release,
+    file: File<'a>,
+}
+
+/// Questions of every kind to one file, each under both releases.
 pub fn check(sound: &Sound, random: &mut Random, questions: u64, report: &mut Report) {
-    let Ok(file) = judge(&sound.bytes) else {
+    let read = |release| {
+        let file = judge(&sound.bytes, release);
+        file.map(|file| Read { release, file })
+    };
+    let [Ok(newer), Ok(older)] = Release::ALL.map(read) else {
         return;
     };
+    let both = [newer, older];
     for _ in 0..questions {
         let ask = draw(sound, random);
         for freedom in ask_freedoms_of(sound, &ask) {
             report.ask_freedoms.add(freedom);
         }
-        check_ask(&file, sound, &ask, random, report);
-        check_chosen(&file, sound, &ask, report);
+        for read in &both {
+            check_ask(read, sound, &ask, random, report);
+            check_chosen(&read.file, sound, &ask, report);
+        }
     }
     for clause in ask_clauses() {
         let ask = draw(sound, random);
         if let Some(spoiled) = clause.spoil(sound, random, ask) {
-            check_spoiled(&file, sound, &spoiled, clause, report);
-            check_chosen(&file, sound, &spoiled, report);
+            for read in &both {
+                check_spoiled(&read.file, sound, &spoiled, clause, report);
+                check_chosen(&read.file, sound, &spoiled, report);
+            }
         }
     }
-    check_two_clauses(&file, sound, random, report);
+    check_two_clauses(&both, sound, random, report);
     for clause in REQUEST_CLAUSES {
         if let Some(request) = clause.draw(sound, random) {
-            if refused(&file, request) == Some(Refusal::new(24, 0)) {
+            let is_24 = |read: &Read| refused(&read.file, request) == Some(Refusal::new(24, 0));
+            if both.iter().all(is_24) {
                 report.clauses.add(clause.name);
             } else {
                 report.differs(format!("{}: {request:?}", clause.name));
@@ -74,7 +90,8 @@ fn compose(file: &File, ask: &Ask, report: &mut Report) -> Result<Painting, Refu
 }
 
 /// A question that passes 20 to 22.
-fn check_ask(file: &File, sound: &Sound, ask: &Ask, random: &mut Random, report: &mut Report) {
+fn check_ask(read: &Read, sound: &Sound, ask: &Ask, random: &mut Random, report: &mut Report) {
+    let file = &read.file;
     let answer = compose(file, ask, report);
     if let Some(entry) = first_of_another_type(sound, ask) {
         let wanted = Refusal::new(23, entry.place as u64);
@@ -86,16 +103,17 @@ fn check_ask(file: &File, sound: &Sound, ask: &Ask, random: &mut Random, report:
         Ok(painting) => painting,
         Err(refusal) => return report.differs(format!("{:?}: {refusal}", ask.question)),
     };
-    if painting != paint(sound, ask) {
-        report.differs(format!("painted otherwise: {:?}", ask.question));
+    if painting != paint(sound, ask, read.release) {
+        let (release, question) = (read.release, &ask.question);
+        report.differs(format!("painted otherwise under {release:?}: {question:?}"));
     }
-    note_outcome(file, ask, &painting, report);
+    note_outcome(read, ask, &painting, report);
     if let Some(cut) = Cut::draw(ask, random) {
         check_cut(file, ask, &painting, &cut, report);
     }
 }
 
-fn note_outcome(file: &File, ask: &Ask, painting: &Painting, report: &mut Report) {
+fn note_outcome(read: &Read, ask: &Ask, painting: &Painting, report: &mut Report) {
     report.outcomes.add("answered");
     let pixels = ask.question.pixels();
     report.outcomes.add(match painting.covered {
@@ -110,8 +128,11 @@ fn note_outcome(file: &File, ask: &Ask, painting: &Painting, report: &mut Report
     if ask.question.masks == Masks::On {
         let mut without = ask.clone();
         without.question.masks = Masks::Off;
-        if compose(file, &without, report).as_ref() != Ok(painting) {
-            report.outcomes.add("masks change the plane");
+        let is_same = compose(&read.file, &without, report).as_ref() == Ok(painting);
+        match read.release {
+            Release::V1_2 if is_same => {}
+            Release::V1_2 => report.outcomes.add("masks change the plane"),
+            Release::V1_02 => report.compare("masks on under 1.02", is_same, true),
         }
     }
 }
@@ -163,7 +184,7 @@ fn check_spoiled(file: &File, sound: &Sound, ask: &Ask, clause: &AskClause, repo
 }
 
 /// Two clauses at once: the lesser number is given.
-fn check_two_clauses(file: &File, sound: &Sound, random: &mut Random, report: &mut Report) {
+fn check_two_clauses(both: &[Read; 2], sound: &Sound, random: &mut Random, report: &mut Report) {
     let clauses = ask_clauses();
     let mut two = [random.below(clauses.len()), random.below(clauses.len())];
     two.sort();
@@ -174,8 +195,10 @@ fn check_two_clauses(file: &File, sound: &Sound, random: &mut Random, report: &m
     let drawn = draw(sound, random);
     let spoiled = second.spoil(sound, random, drawn);
     if let Some(ask) = spoiled.and_then(|ask| first.spoil(sound, random, ask)) {
-        let got = compose(file, &ask, report).err().map(|r| r.number);
-        report.compare(first.name, got, Some(first.number));
+        for read in both {
+            let got = compose(&read.file, &ask, report).err().map(|r| r.number);
+            report.compare(first.name, got, Some(first.number));
+        }
     }
 }
 

@@ -2,7 +2,7 @@
 
 use generate::ask::{ask_clauses, ask_freedoms, REQUEST_CLAUSES};
 use generate::damage::{clauses, EXTERNAL_CLAUSE};
-use generate::{freedoms, metadata_names, Tally, LIMITS, LISTING_CLAUSES};
+use generate::{freedoms, metadata_names, Tally, LIMITS, LISTING_CLAUSES, VERDICTS};
 use std::fmt;
 
 /// A run prints so many differences and counts the rest.
@@ -36,6 +36,7 @@ pub struct Report {
     pub freedoms: Tally,
     pub metadata_names: Tally,
     pub limits: Tally,
+    pub verdicts: Tally,
     pub ask_freedoms: Tally,
     pub outcomes: Tally,
     pub clauses: Tally,
@@ -65,6 +66,7 @@ impl Report {
             freedoms: Tally::new("Files that take a freedom", freedoms()),
             metadata_names: Tally::new("Metadata by what they hold", metadata_names()),
             limits: Tally::new("Files at a limit", LIMITS.iter().map(|l| l.name)),
+            verdicts: Tally::new("Damaged files by what both releases say", VERDICTS),
             ask_freedoms: Tally::new("Questions that take a freedom", ask_freedoms()),
             outcomes: Tally::new("Questions by what came of them", OUTCOMES),
             clauses: Tally::new("Refusals by clause", all).with_external(EXTERNAL_CLAUSE),
@@ -89,11 +91,12 @@ impl Report {
         }
     }
 
-    fn tallies(&self) -> [&Tally; 6] {
+    fn tallies(&self) -> [&Tally; 7] {
         [
             &self.freedoms,
             &self.metadata_names,
             &self.limits,
+            &self.verdicts,
             &self.ask_freedoms,
             &self.outcomes,
             &self.clauses,

@@ -1,5 +1,6 @@
 -- `compose::examine` meets its contract.
 use borrow.Author.Needs.{needs}
+use Rattle.judge.proofs.AcceptedFile.{accepted-file}
 use Rattle.compose.proofs.Examining.{judge-stops, judge-passes}
 use Rattle.compose.proofs.examine.Statement.{statement}
 use Rattle.compose.proofs.examine.Tie as tie
@@ -14,6 +15,6 @@ examine-spec =
     (λ c κs. search needs)
     (λ c. search needs)
     (λ c. search needs)
-    (λ c κs. (cc, search needs))
+    (λ c κs. search (needs, accepted-file))
     returns
     (λ c. search judge-passes))

@@ -4,6 +4,9 @@ use Rattle.compose.proofs.Running.{key-entry, key-paints, key-painted}
 use Rattle.compose.proofs.paint_key.Statement.{statement}
 use Rattle.compose.proofs.paint_key.Tie as tie
 
+paint-entry-requires : tie.Need-paint-entry-requires
+paint-entry-requires c κs = search key-paints
+
 pub paint-key-spec : {M : Type 1} → statement M
 paint-key-spec =
     tie.close
@@ -11,7 +14,7 @@ paint-key-spec =
     (λ c. search needs)
     (λ c. search needs)
     (λ c κs. search key-entry)
-    (λ c κs. search key-paints)
+    paint-entry-requires
     (λ c. search needs)
     (λ c. search needs)
     (λ c. search key-painted))

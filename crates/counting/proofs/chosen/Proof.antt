@@ -1,14 +1,14 @@
 -- `counting::chosen` meets its contract.
 use native.Mathlib.Omega.{arith}
 use borrow.Author.Needs.{needs}
-use Rattle.format.proofs.Answering.{accepted}
+use Rattle.judge.proofs.AcceptedFile.{accepted-file}
 use Rattle.counting.proofs.Marking.{window-back}
 use Rattle.counting.proofs.Answering.{chosen-refused, chosen-short, chosen-found}
 use Rattle.counting.proofs.chosen.Statement.{statement}
 use Rattle.counting.proofs.chosen.Tie as tie
 
 mark-all-requires : tie.Need-mark-all-requires
-mark-all-requires c κs = ((search accepted, omega arith), (omega arith, omega arith))
+mark-all-requires c κs = ((search accepted-file, omega arith), (omega arith, omega arith))
 
 returns : tie.Need-returns
 returns c = search chosen-short
@@ -26,7 +26,7 @@ chosen-spec =
     (λ c κs. search needs)
     (λ c. search needs)
     (λ c. search needs)
-    (λ c κs. search accepted)
+    (λ c κs. search accepted-file)
     returns
     (λ c κs. search needs)
     mark-all-requires

@@ -4,7 +4,6 @@ use native.Mathlib.Omega.{arith}
 use borrow.Author.Needs.{needs}
 use Rattle.judge.proofs.AcceptedFile.{accepted-long, accepted-entries}
 use Rattle.judge.proofs.EntryLoop.{at-fixed}
-use Rattle.counting.specs.Chosen.{seek}
 use Rattle.counting.proofs.Marking.{Marking, marking-start, marking-all, marking-listed, marking-size}
 use Rattle.counting.proofs.Marking.{marking-room, selected-most, meeting-most, marking-next, marking-end}
 use Rattle.counting.proofs.mark_all.Statement.{statement}
@@ -12,7 +11,7 @@ use Rattle.counting.proofs.mark_all.Tie as tie
 
 abbrev Inv-loop : tie.InvT-loop
 Inv-loop s starts any-scene w marks₀ n e₀ selected₀ meeting₀ k₀ marks e selected meeting k =
-    Marking (seek s starts any-scene w) marks₀ marks n e selected meeting k
+    Marking s starts any-scene w marks₀ marks n e selected meeting k
 
 abbrev μ-loop : tie.MeasureT-loop
 μ-loop s starts any-scene w marks₀ n e₀ selected₀ meeting₀ k₀ marks e selected meeting k = n - k

@@ -13,13 +13,13 @@ judge-block-requires c κs =
     let j = c .before .before .before in
     let k = j .before in
     let p = k .before .before .before .before .pre in
-    block-known (scanOf _) _ _ _ (k .before .before .file-position .ensures) (k .index-as .ensures) _ _ (p .1 .0) (p .1 .1 .0) (p .1 .1 .1)
+    block-known (scanOf _ _) _ _ _ (k .before .before .file-position .ensures) (k .index-as .ensures) _ _ (p .1 .0) (p .1 .1 .0) (p .1 .1 .1)
     (j .judge-tile .ensures) (c .before .enum-told .given .1)
 
 returns-2 : tie.Need-returns-2
 returns-2 c =
     let j = c .before .before .before .before in
-    body-next (scanOf _) _ _ _ _ _ (j .judge-tile .ensures) (c .before .before .enum-told .given .1) (j .before .before .before .file-position .ensures)
+    body-next (scanOf _ _) _ _ _ _ _ (j .judge-tile .ensures) (c .before .before .enum-told .given .1) (j .before .before .before .file-position .ensures)
     (c .judge-block .ensures)
 
 judge-tile-requires : tie.Need-judge-tile-requires

@@ -10,10 +10,10 @@ use Rattle.directory.proofs.judge_entries.Statement.{statement}
 use Rattle.directory.proofs.judge_entries.Tie as tie
 
 abbrev Inv-loop : tie.InvT-loop
-Inv-loop s table count d n judged₀ e₀ k₀ judged e k = Entries (scanOf s) judged d n e k
+Inv-loop s release table count d n judged₀ e₀ k₀ judged e k = Entries (scanOf s release) judged d n e k
 
 abbrev μ-loop : tie.MeasureT-loop
-μ-loop s table count d n judged₀ e₀ k₀ judged e k = n - k
+μ-loop s release table count d n judged₀ e₀ k₀ judged e k = n - k
 
 returns : tie.Need-returns Inv-loop μ-loop
 returns c =
@@ -24,7 +24,7 @@ returns c =
 next-entry-requires : tie.Need-next-entry-requires Inv-loop μ-loop
 next-entry-requires c κs =
     let j = c .before .before in
-    entry-in (scanOf _) _ _ (j .before .before .before .before .before .before .pre .1 .0) _ _ (j .judge-entry .ensures) (c .enum-told .given .1)
+    entry-in (scanOf _ _) _ _ (j .before .before .before .before .before .before .pre .1 .0) _ _ (j .judge-entry .ensures) (c .enum-told .given .1)
 
 loop-holds : tie.Need-loop-holds Inv-loop μ-loop
 loop-holds c = search (entries-start, none-marked)

@@ -7,7 +7,6 @@ use mathlib.Core.Bool.{Bool, true, false, not}
 use lib.Dec.{eqb}
 use borrow.Author.Needs.{needs}
 use Rattle.format.proofs.Flags.{cond-true, is-true, is-false, not-is-true, not-is-false, eq-yes, eq-no}
-use Rattle.format.specs.Scan.{scanOf, blockFile}
 use Rattle.format.specs.Names.{nameSubBlock}
 use Rattle.format.specs.Segments.{walkedAs}
 use Rattle.format.specs.Entry.{pixelType, pixelBytes, compression, entryPart, filePosition, dimensionsBad}
@@ -92,12 +91,12 @@ passed-4 c = is-0 _ _ (c .before .file-part .ensures .0) (c .if4 .left)
 
 taken-5 : (c : tie.Then5)
     → let g = given-4 (c .before) in
-    not (walkedAs (blockFile (scanOf (g .0)) (g .1)) (filePosition (g .0) (g .1)) nameSubBlock) ≡ true
+    not (walkedAs (g .0) (filePosition (g .0) (g .1)) nameSubBlock) ≡ true
 taken-5 c = search named-is
 
 passed-5 : (c : tie.Else5)
     → let g = given-5 c in
-    not (walkedAs (blockFile (scanOf (g .0)) (g .1)) (filePosition (g .0) (g .1)) nameSubBlock) ≡ false
+    not (walkedAs (g .0) (filePosition (g .0) (g .1)) nameSubBlock) ≡ false
 passed-5 c = search named-is
 
 -- ---- the answers

@@ -10,4 +10,4 @@ segment-count-spec =
     tie.close
     (tie.spec
     (λ c κs. search needs)
-    (λ c. c .judge-segments .ensures .count-is ∙ rw (verdict-parts _ (c .before .before .pre) .segments)))
+    (λ c. c .judge-segments .ensures .count-is ∙ rw (verdict-parts _ (c .before .before .pre .accepted) .segments)))

@@ -1,5 +1,5 @@
 -- `listing::summarize` meets its contract.
-use Rattle.format.proofs.Answering.{accepted}
+use Rattle.judge.proofs.AcceptedFile.{accepted-file}
 use Rattle.listing.proofs.Summaries.{held, summary-refused, summary-found}
 use borrow.Author.Needs.{needs}
 use Rattle.listing.proofs.summarize.Statement.{statement}
@@ -12,7 +12,7 @@ summarize-spec =
     (λ c κs. search needs)
     (λ c. search needs)
     (λ c. search needs)
-    (λ c κs. search accepted)
+    (λ c κs. search accepted-file)
     (λ c κs. search held)
     (λ c. search summary-refused)
     (λ c. search summary-found))

@@ -1,6 +1,7 @@
 -- `parts::attachment` meets its contract.
 use borrow.Author.Needs.{needs}
-use Rattle.format.proofs.Answering.{accepted, attachment-refused}
+use Rattle.format.proofs.Answering.{attachment-refused}
+use Rattle.parts.proofs.Numbered.{annex-file, annex-below}
 use Rattle.parts.proofs.Parts.{annex-found}
 use Rattle.parts.proofs.attachment.Statement.{statement}
 use Rattle.parts.proofs.attachment.Tie as tie
@@ -18,8 +19,8 @@ attachment-spec =
     (λ c κs. search needs)
     (λ c. search needs)
     (λ c. search needs)
-    (λ c κs. search accepted)
-    (λ c κs. search accepted)
-    (λ c κs. search accepted)
+    (λ c κs. search (annex-file, annex-below))
+    (λ c κs. search (annex-file, annex-below))
+    (λ c κs. search (annex-file, annex-below))
     returns
     returns-2)

@@ -1,6 +1,7 @@
 -- `parts::attachment_data_span` meets its contract.
 use Rattle.format.specs.Records.{attachmentData}
-use Rattle.format.proofs.Answering.{accepted, span-refused, span-found}
+use Rattle.format.proofs.Answering.{span-refused, span-found}
+use Rattle.parts.proofs.Numbered.{annex-file, annex-below}
 use borrow.Author.Needs.{needs}
 use Rattle.parts.proofs.attachment_data_span.Statement.{statement}
 use Rattle.parts.proofs.attachment_data_span.Tie as tie
@@ -22,7 +23,7 @@ attachment-data-span-spec =
     (λ c κs. search needs)
     (λ c. search needs)
     (λ c. search needs)
-    (λ c κs. search accepted)
-    (λ c κs. search accepted)
+    (λ c κs. search (annex-file, annex-below))
+    (λ c κs. search (annex-file, annex-below))
     returns
     returns-2)

@@ -19,6 +19,6 @@ pub data-span-spec : {M : Type 1} → statement M
 data-span-spec =
     tie.close
     (tie.spec
-    (λ c. omega (arith, data-in _ _ (c .before .pre .0) _ (c .before .pre .1)))
-    (λ c κs. omega (arith, data-in _ _ (c .before .pre .0) _ (c .before .pre .1)))
+    (λ c. omega (arith, data-in _ (c .before .pre .0 .0) _ (c .before .pre .0 .1) _ (c .before .pre .1)))
+    (λ c κs. omega (arith, data-in _ (c .before .pre .0 .0) _ (c .before .pre .0 .1) _ (c .before .pre .1)))
     returns)

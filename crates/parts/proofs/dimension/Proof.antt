@@ -1,7 +1,7 @@
 -- `parts::dimension` meets its contract.
 use borrow.Author.Needs.{needs}
-use Rattle.format.proofs.Answering.{accepted, dimension-refused}
-use Rattle.parts.proofs.Numbered.{dimension-tile, dimension-small, dimension-in}
+use Rattle.format.proofs.Answering.{dimension-refused}
+use Rattle.parts.proofs.Numbered.{dimension-file, dimension-below, dimension-small, dimension-in}
 use Rattle.parts.proofs.Parts.{dimension-record-found}
 use Rattle.parts.proofs.dimension.Statement.{statement}
 use Rattle.parts.proofs.dimension.Tie as tie
@@ -16,8 +16,8 @@ dimension-spec =
     (λ c κs. search needs)
     (λ c. search needs)
     (λ c. search needs)
-    (λ c κs. dimension-tile _ _ _ (accepted (c .before .before .dimension-refusal .ensures) (c .enum-told .given .1)))
-    (λ c κs. search (dimension-small, accepted))
-    (λ c κs. search (dimension-in, accepted))
+    (λ c κs. search (dimension-file, dimension-below))
+    (λ c κs. search dimension-small)
+    (λ c κs. search dimension-in)
     (λ c. search dimension-refused)
     returns-2)

@@ -1,9 +1,8 @@
 -- `parts::dimension_refusal` meets its contract.
 use borrow.Author.Needs.{needs}
 use Rattle.format.specs.Rules.{tileVerdict}
-use Rattle.format.proofs.Answering.{accepted}
 use Rattle.format.proofs.Flags.{le-yes, le-no}
-use Rattle.parts.proofs.Numbered.{refused-before, no-such, is-there, tile-fixed, dimension-asked}
+use Rattle.parts.proofs.Numbered.{refused-before, no-such, is-there, tile-file, tile-below, tile-fixed, dimension-asked}
 use Rattle.parts.proofs.dimension_refusal.Statement.{statement}
 use Rattle.parts.proofs.dimension_refusal.Tie as tie
 
@@ -27,8 +26,8 @@ dimension-refusal-spec =
     (λ c κs. search needs)
     (λ c. search needs)
     (λ c. search needs)
-    (λ c κs. search accepted)
-    (λ c κs. search (tile-fixed, accepted))
+    (λ c κs. search (tile-file, tile-below))
+    (λ c κs. search (tile-fixed, tile-file, tile-below))
     returns
     returns-2
     returns-3)

@@ -1,9 +1,9 @@
 -- `parts::entry_place` meets its contract.
 use Prim.Native.Nat.{_-_}
+use native.Mathlib.Nat.{le-of-lt}
 use native.Mathlib.Omega.{arith}
 use Rattle.judge.proofs.AcceptedFile.{accepted-long, accepted-entries}
 use Rattle.judge.proofs.EntryLoop.{AtEntry, at-start, at-next, at-end, at-fixed}
-use Rattle.parts.proofs.Numbered.{tile-accepted, tile-below}
 use Rattle.parts.proofs.entry_place.Statement.{statement}
 use Rattle.parts.proofs.entry_place.Tie as tie
 
@@ -22,9 +22,9 @@ entry-place-spec =
     (tie.spec
     Inv-loop
     μ-loop
-    (λ c κs. search (accepted-long, accepted-entries, tile-accepted))
+    (λ c κs. search (accepted-long, accepted-entries))
     loop-holds
-    (λ c κs. search (at-fixed, tile-accepted, tile-below))
+    (λ c κs. search (at-fixed, le-of-lt))
     (λ c. omega arith)
     (λ c. omega arith)
     (λ c. search at-next)

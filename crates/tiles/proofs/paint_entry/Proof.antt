@@ -1,6 +1,6 @@
 -- `tiles::paint_entry` meets its contract.
 use borrow.Author.Needs.{needs}
-use Rattle.tiles.proofs.EntryTiles.{judged-on, painted-off, painted-on, painted-unmasked}
+use Rattle.tiles.proofs.EntryTiles.{judged-on, mask-read, painted-off, painted-unmasked, painted-read}
 use Rattle.tiles.proofs.paint_entry.Statement.{statement}
 use Rattle.tiles.proofs.paint_entry.Tie as tie
 
@@ -19,7 +19,7 @@ paint-entry-spec =
     (λ c. search needs)
     (λ c. search painted-unmasked)
     (λ c. search needs)
-    (λ c κs. (search needs, (search judged-on, cc)))
+    (λ c κs. search (needs, mask-read))
     (λ c. search needs)
     (λ c. search needs)
-    (λ c. search painted-on))
+    (λ c. search painted-read))

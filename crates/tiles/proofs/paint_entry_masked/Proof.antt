@@ -1,7 +1,7 @@
 -- `tiles::paint_entry_masked` meets its contract.
 use native.Mathlib.Omega.{arith}
 use borrow.Author.Needs.{needs}
-use Rattle.tiles.proofs.EntryTiles.{mask-lined, lines-in, lines-room, painted-masked}
+use Rattle.tiles.proofs.EntryTiles.{lines-in, lines-room, painted-masked}
 use Rattle.tiles.proofs.paint_entry_masked.Statement.{statement}
 use Rattle.tiles.proofs.paint_entry_masked.Tie as tie
 
@@ -9,7 +9,7 @@ paint-behind-requires : tie.Need-paint-behind-requires
 paint-behind-requires c κs =
     let k = c .before .before .before in
     let a = k .before .before .before .before in
-    (a .pre .0, lines-room _ (mask-lined (a .pre .1 .0) (a .pre .1 .1)) (omega arith))
+    (a .pre .0, lines-room _ (a .pre .1) (omega arith))
 
 returns : tie.Need-returns
 returns c = search painted-masked
@@ -18,7 +18,7 @@ pub paint-entry-masked-spec : {M : Type 1} → statement M
 paint-entry-masked-spec =
     tie.close
     (tie.spec
-    (λ c. let a = c .before .before .before .before in omega (arith, lines-in (a .pre .1 .0) (a .pre .1 .1)))
+    (λ c. let a = c .before .before .before .before in omega (arith, lines-in (a .pre .1)))
     (λ c. search lines-in)
     (λ c. search lines-in)
     (λ c. search needs)

@@ -40,6 +40,7 @@ macro_rules! composer {
         $(#[$doc])*
         pub fn $name(
             file: &[u8],
+            release: u32,
             question: &Plain,
             target: &mut [u8],
             map: &mut [u8],
@@ -55,6 +56,7 @@ macro_rules! composer {
                 ffi::$function(
                     file.as_ptr(),
                     file.len(),
+                    release,
                     question.starts.as_ptr(),
                     question.starts.len(),
                     question.any_scene,
@@ -108,7 +110,12 @@ pub struct ChosenCounts {
 /// with the window. Of the question its starts, scene and window count; any window
 /// may be asked about. 22 where there are fewer marks than tiles; those past the
 /// tiles stay, and all where refused.
-pub fn chosen(file: &[u8], question: &Plain, marks: &mut [u8]) -> Answer<ChosenCounts> {
+pub fn chosen(
+    file: &[u8],
+    release: u32,
+    question: &Plain,
+    marks: &mut [u8],
+) -> Answer<ChosenCounts> {
     let mut place = UNWRITTEN;
     let mut value = ChosenCounts {
         selected: UNWRITTEN,
@@ -120,6 +127,7 @@ pub fn chosen(file: &[u8], question: &Plain, marks: &mut [u8]) -> Answer<ChosenC
         ffi::czi_chosen(
             file.as_ptr(),
             file.len(),
+            release,
             question.starts.as_ptr(),
             question.starts.len(),
             question.any_scene,

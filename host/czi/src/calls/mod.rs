@@ -1,5 +1,6 @@
 //! The functions of `include/czi.h` one for one: what stands behind an
-//! out-pointer is answered by value, the refusal's number and place with it.
+//! out-pointer is answered by value, the refusal's number and place with it. A
+//! release is its number there: [`RELEASE_1_02`], or any other for 1.2.
 //!
 //! Each out-object holds a pattern before the call, so that one which the
 //! library did not write would be seen.
@@ -18,6 +19,12 @@ pub use tables::{dimensions, tiles};
 /// What stands behind the out-pointers before a call.
 const UNWRITTEN: u64 = 0xA5A5_A5A5_A5A5_A5A5;
 const UNWRITTEN_INT: i32 = 0x5A5A_5A5A;
+
+/// The number of release 1.2.
+pub const RELEASE_1_2: u32 = 0;
+
+/// The number of release 1.02.
+pub const RELEASE_1_02: u32 = 1;
 
 /// The length of the listing's buffer.
 pub const TEXT: usize = 192;
@@ -133,10 +140,10 @@ pub struct Text {
 }
 
 /// The verdict on a file.
-pub fn judge(file: &[u8]) -> Answer<()> {
+pub fn judge(file: &[u8], release: u32) -> Answer<()> {
     let mut place = UNWRITTEN;
     // SAFETY: file is so many bytes, place one object of its type.
-    let number = unsafe { ffi::czi_judge(file.as_ptr(), file.len(), &mut place) };
+    let number = unsafe { ffi::czi_judge(file.as_ptr(), file.len(), release, &mut place) };
     Answer {
         number,
         place,
@@ -144,8 +151,9 @@ pub fn judge(file: &[u8]) -> Answer<()> {
     }
 }
 
-type Numbered = unsafe extern "C" fn(*const u8, usize, u64, *mut u64, *mut u64, *mut u64) -> u32;
-type Common = unsafe extern "C" fn(*const u8, usize, *mut u64, *mut u64, *mut u64) -> u32;
+type Numbered =
+    unsafe extern "C" fn(*const u8, usize, u32, u64, *mut u64, *mut u64, *mut u64) -> u32;
+type Common = unsafe extern "C" fn(*const u8, usize, u32, *mut u64, *mut u64, *mut u64) -> u32;
 
 fn spanned(ask: impl FnOnce(*mut u64, *mut u64, *mut u64) -> u32) -> Answer<Span> {
     let (mut place, mut start, mut length) = (UNWRITTEN, UNWRITTEN, UNWRITTEN);
@@ -157,50 +165,57 @@ fn spanned(ask: impl FnOnce(*mut u64, *mut u64, *mut u64) -> u32) -> Answer<Span
     }
 }
 
-fn numbered(function: Numbered, file: &[u8], entry: u64) -> Answer<Span> {
+fn numbered(function: Numbered, file: &[u8], release: u32, entry: u64) -> Answer<Span> {
+    let (bytes, count) = (file.as_ptr(), file.len());
     // SAFETY: file is so many bytes, the others one object each.
     spanned(|place, start, length| unsafe {
-        function(file.as_ptr(), file.len(), entry, place, start, length)
+        function(bytes, count, release, entry, place, start, length)
     })
 }
 
-fn common(function: Common, file: &[u8]) -> Answer<Span> {
+fn common(function: Common, file: &[u8], release: u32) -> Answer<Span> {
     // SAFETY: file is so many bytes, the others one object each.
     spanned(|place, start, length| unsafe {
-        function(file.as_ptr(), file.len(), place, start, length)
+        function(file.as_ptr(), file.len(), release, place, start, length)
     })
 }
 
 /// The pixels of a tile; 24 where there is no such entry.
-pub fn tile_pixels(file: &[u8], entry: u64) -> Answer<Span> {
-    numbered(ffi::czi_tile_pixels, file, entry)
+pub fn tile_pixels(file: &[u8], release: u32, entry: u64) -> Answer<Span> {
+    numbered(ffi::czi_tile_pixels, file, release, entry)
 }
 
 /// The metadata of a tile's sub-block; 24 where there is no such entry.
-pub fn tile_metadata(file: &[u8], entry: u64) -> Answer<Span> {
-    numbered(ffi::czi_tile_metadata, file, entry)
+pub fn tile_metadata(file: &[u8], release: u32, entry: u64) -> Answer<Span> {
+    numbered(ffi::czi_tile_metadata, file, release, entry)
 }
 
 /// The attachment of a tile's sub-block; 24 where there is no such entry.
-pub fn tile_attachment(file: &[u8], entry: u64) -> Answer<Span> {
-    numbered(ffi::czi_tile_attachment, file, entry)
+pub fn tile_attachment(file: &[u8], release: u32, entry: u64) -> Answer<Span> {
+    numbered(ffi::czi_tile_attachment, file, release, entry)
 }
 
 /// The data of an attachment, counted in the attachment directory; 24 where
 /// there is no such entry.
-pub fn attachment_data(file: &[u8], entry: u64) -> Answer<Span> {
-    numbered(ffi::czi_attachment_data, file, entry)
+pub fn attachment_data(file: &[u8], release: u32, entry: u64) -> Answer<Span> {
+    numbered(ffi::czi_attachment_data, file, release, entry)
 }
 
 /// The record of an attachment, into the one that is lent, which stays as it was
 /// where refused, and where its data lie; 24 where there is no such entry.
-pub fn attachment(file: &[u8], entry: u64, record: &mut AttachmentRecord) -> Answer<Span> {
+pub fn attachment(
+    file: &[u8],
+    release: u32,
+    entry: u64,
+    record: &mut AttachmentRecord,
+) -> Answer<Span> {
     // SAFETY: file is so many bytes, the arrays are to as many as the header says,
     // the others one object each.
     spanned(|place, start, length| unsafe {
         ffi::czi_attachment(
             file.as_ptr(),
             file.len(),
+            release,
             entry,
             place,
             record.guid.as_mut_ptr(),
@@ -213,24 +228,25 @@ pub fn attachment(file: &[u8], entry: u64, record: &mut AttachmentRecord) -> Ans
 }
 
 /// The common XML; empty without a metadata segment.
-pub fn common_xml(file: &[u8]) -> Answer<Span> {
-    common(ffi::czi_common_xml, file)
+pub fn common_xml(file: &[u8], release: u32) -> Answer<Span> {
+    common(ffi::czi_common_xml, file, release)
 }
 
 /// The attachment of the common XML; empty without a metadata segment.
-pub fn common_attachment(file: &[u8]) -> Answer<Span> {
-    common(ffi::czi_common_attachment, file)
+pub fn common_attachment(file: &[u8], release: u32) -> Answer<Span> {
+    common(ffi::czi_common_attachment, file, release)
 }
 
 /// The record of a tile, into the one that is lent, which stays as it was where
 /// refused; 24 where there is no such entry.
-pub fn tile(file: &[u8], entry: u64, record: &mut TileRecord) -> Answer<()> {
+pub fn tile(file: &[u8], release: u32, entry: u64, record: &mut TileRecord) -> Answer<()> {
     let mut place = UNWRITTEN;
     // SAFETY: file is so many bytes, numbers and starts are to as many as the header says.
     let number = unsafe {
         ffi::czi_tile(
             file.as_ptr(),
             file.len(),
+            release,
             entry,
             &mut place,
             record.numbers.as_mut_ptr(),
@@ -246,7 +262,7 @@ pub fn tile(file: &[u8], entry: u64, record: &mut TileRecord) -> Answer<()> {
 }
 
 /// The record of a tile's dimension; 24 where there is no such entry or dimension.
-pub fn dimension(file: &[u8], entry: u64, dimension: u64) -> Answer<DimensionRecord> {
+pub fn dimension(file: &[u8], release: u32, entry: u64, dimension: u64) -> Answer<DimensionRecord> {
     let mut place = UNWRITTEN;
     let mut value = DimensionRecord {
         letter: UNWRITTEN,
@@ -260,6 +276,7 @@ pub fn dimension(file: &[u8], entry: u64, dimension: u64) -> Answer<DimensionRec
         ffi::czi_dimension(
             file.as_ptr(),
             file.len(),
+            release,
             entry,
             dimension,
             &mut place,
@@ -278,7 +295,7 @@ pub fn dimension(file: &[u8], entry: u64, dimension: u64) -> Answer<DimensionRec
 }
 
 /// The figures of a file of any size.
-pub fn summary(file: &[u8]) -> Answer<Figures> {
+pub fn summary(file: &[u8], release: u32) -> Answer<Figures> {
     let mut place = UNWRITTEN;
     let mut value = Figures {
         bytes: UNWRITTEN,
@@ -294,6 +311,7 @@ pub fn summary(file: &[u8]) -> Answer<Figures> {
         ffi::czi_summary(
             file.as_ptr(),
             file.len(),
+            release,
             &mut place,
             &mut value.bytes,
             &mut value.segments,
@@ -314,10 +332,10 @@ pub fn summary(file: &[u8]) -> Answer<Figures> {
 }
 
 /// The listing's text; a refusal is in the text, 30 too.
-pub fn list(file: &[u8]) -> Text {
+pub fn list(file: &[u8], release: u32) -> Text {
     let mut bytes = [UNWRITTEN as u8; TEXT];
     // SAFETY: file is so many bytes, text to as many as the header says.
-    let length = unsafe { ffi::czi_list(file.as_ptr(), file.len(), bytes.as_mut_ptr()) };
+    let length = unsafe { ffi::czi_list(file.as_ptr(), file.len(), release, bytes.as_mut_ptr()) };
     Text { length, bytes }
 }
 

@@ -3,7 +3,8 @@
 //!
 //! Each module below has a table of [`Clause`]s. A clause's name begins with
 //! its number in the paper's table. Two damages at once are refused by the
-//! earlier in the paper's [`Order`].
+//! earlier in the paper's [`Order`]; 17 and 18 are never given under release
+//! 1.02, so that such damage alone is none there.
 
 mod attachment;
 mod chunk;
@@ -20,6 +21,7 @@ mod sub_block;
 
 use crate::random::Random;
 use crate::sound::Sound;
+use reference::{Refusal, Release};
 
 pub use edit::Edit;
 pub use order::Order;
@@ -50,16 +52,26 @@ struct Damage {
     moves: Option<usize>,
 }
 
-/// A damaged file with the refusal that it must get.
+/// What a file is refused for, unless something earlier is given.
+#[derive(Clone, Copy, Debug)]
+struct Fault {
+    clause: &'static str,
+    order: Order,
+    refusal: Refusal,
+}
+
+impl Fault {
+    fn is_of_chunks(&self) -> bool {
+        [17, 18].contains(&self.refusal.number)
+    }
+}
+
+/// A damaged file with the refusals that it must get.
 #[derive(Clone, Debug)]
 pub struct Damaged {
-    /// The clause that is reached.
-    pub clause: &'static str,
-    /// The refusal's number.
-    pub number: u32,
-    /// The refusal's place.
-    pub place: u64,
     damage: Damage,
+    /// At least one.
+    faults: Vec<Fault>,
 }
 
 /// All clauses that refuse a file, in the table's order.
@@ -91,16 +103,68 @@ impl Clause {
     /// Damage that reaches the clause, or nothing where the file has no field for it.
     pub fn damage(&self, sound: &Sound, random: &mut Random) -> Option<Damaged> {
         let damage = (self.make)(sound, random)?;
-        Some(Damaged {
+        let fault = Fault {
             clause: self.name,
-            number: self.number,
-            place: damage.place as u64,
+            order: damage.order,
+            refusal: Refusal::new(self.number, damage.place as u64),
+        };
+        Some(Damaged {
             damage,
+            faults: vec![fault],
         })
     }
 }
 
+/// A broken container with a later fault in the same file, where it has both: 1.2
+/// gives 17 or 18, and 1.02 the fault.
+pub fn behind_a_container(sound: &Sound, random: &mut Random) -> Option<Damaged> {
+    let mut chunks: Vec<&Clause> = chunk::CLAUSES.iter().collect();
+    random.shuffle(&mut chunks);
+    let broken = chunks.iter().find_map(|c| c.damage(sound, random))?;
+    let tables = [
+        directory::CLAUSES,
+        entry::CLAUSES,
+        sub_block::CLAUSES,
+        metadata::CLAUSES,
+        attachment::CLAUSES,
+    ];
+    let mut others: Vec<&Clause> = tables.into_iter().flatten().collect();
+    random.shuffle(&mut others);
+    others.into_iter().find_map(|clause| {
+        let later = clause.damage(sound, random)?;
+        let is_later = broken.damage.order < later.damage.order;
+        broken.beside(&later).filter(|_| is_later)
+    })
+}
+
 impl Damaged {
+    /// The clause that is reached under release 1.2.
+    pub fn clause(&self) -> &'static str {
+        let fault = self.first(Release::V1_2);
+        fault.expect("a damaged file has a fault").clause
+    }
+
+    /// The refusal that the file must get under that release; nothing where it must
+    /// be accepted.
+    pub fn refusal(&self, release: Release) -> Option<Refusal> {
+        self.first(release).map(|fault| fault.refusal)
+    }
+
+    /// Is a chunk or a mask broken?
+    pub fn breaks_a_container(&self) -> bool {
+        self.faults.iter().any(Fault::is_of_chunks)
+    }
+
+    /// The earliest fault. Under 1.02 broken chunks and masks are none.
+    fn first(&self, release: Release) -> Option<&Fault> {
+        let is_given = |fault: &&Fault| match release {
+            Release::V1_2 => true,
+            Release::V1_02 => !fault.is_of_chunks(),
+        };
+        let given = self.faults.iter().filter(is_given);
+        given.min_by_key(|fault| fault.order)
+    }
+
     /// The sound file with the damage done.
     pub fn apply(&self, sound: &Sound) -> Vec<u8> {
         let mut bytes = sound.bytes.clone();
@@ -122,10 +186,14 @@ impl Damaged {
         if !apart || moved_twice || !a.pairs || !b.pairs {
             return None;
         }
-        let earlier = if a.order <= b.order { self } else { other };
-        let mut both = earlier.clone();
-        both.damage.edits = a.edits.iter().chain(&b.edits).cloned().collect();
-        Some(both)
+        let earlier = if a.order <= b.order { a } else { b };
+        let mut damage = earlier.clone();
+        damage.edits = a.edits.iter().chain(&b.edits).cloned().collect();
+        let faults = self.faults.iter().chain(&other.faults).copied();
+        Some(Damaged {
+            damage,
+            faults: faults.collect(),
+        })
     }
 }
 

@@ -7,15 +7,16 @@ use Rattle.czi.proofs.records.czi_attachment.Statement.{statement}
 use Rattle.czi.proofs.records.czi_attachment.Tie as tie
 
 returns : tie.Need-returns
-returns c = search attachment-refused-out
+returns c = rw (← c .before .before .before .before .before .before .release-of .ensures) (search attachment-refused-out)
 
 returns-2 : tie.Need-returns-2
-returns-2 c = search attachment-found-out
+returns-2 c = let k = c .before .before .before .before .before .before in rw (← k .before .before .release-of .ensures) (search attachment-found-out)
 
 pub czi-attachment-spec : {M : Type 1} → statement M
 czi-attachment-spec =
     tie.close
     (tie.spec
+    (λ c κs. search needs)
     (λ c κs. search needs)
     (λ c. search needs)
     (λ c κs. search needs)

@@ -6,6 +6,9 @@ use borrow.Author.Needs.{needs}
 use Rattle.czi.proofs.records.czi_dimension.Statement.{statement}
 use Rattle.czi.proofs.records.czi_dimension.Tie as tie
 
+returns : tie.Need-returns
+returns c = rw (← c .before .before .before .before .before .before .release-of .ensures) (search (dimension-out, read-back))
+
 pub czi-dimension-spec : {M : Type 1} → statement M
 czi-dimension-spec =
     tie.close
@@ -14,5 +17,6 @@ czi-dimension-spec =
     (λ c κs. search needs)
     (λ c κs. search needs)
     (λ c κs. search needs)
+    (λ c κs. search needs)
     (λ c κs. search (dimension-in-low, dimension-low))
-    (λ c. search (dimension-out, read-back)))
+    returns)

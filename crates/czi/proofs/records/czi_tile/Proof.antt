@@ -6,12 +6,16 @@ use Rattle.czi.proofs.records.czi_tile.Statement.{statement}
 use Rattle.czi.proofs.records.czi_tile.Tie as tie
 
 returns : tie.Need-returns
-returns c = search tile-refused-out
+returns c = rw (← c .before .before .before .before .before .before .release-of .ensures) (search tile-refused-out)
+
+returns-2 : tie.Need-returns-2
+returns-2 c = rw (← c .before .before .before .before .before .before .release-of .ensures) (search tile-found-out)
 
 pub czi-tile-spec : {M : Type 1} → statement M
 czi-tile-spec =
     tie.close
     (tie.spec
+    (λ c κs. search needs)
     (λ c κs. search needs)
     (λ c. search needs)
     (λ c κs. search needs)
@@ -20,4 +24,4 @@ czi-tile-spec =
     (λ c κs. search needs)
     (λ c κs. search needs)
     returns
-    (λ c. search tile-found-out))
+    returns-2)

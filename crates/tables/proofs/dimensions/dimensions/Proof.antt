@@ -1,7 +1,6 @@
 -- `tables::dimensions` meets its contract.
-use native.Mathlib.Omega.{arith}
 use borrow.Author.Needs.{needs}
-use Rattle.format.proofs.Answering.{accepted}
+use Rattle.judge.proofs.AcceptedFile.{accepted-file}
 use Rattle.tables.specs.Tables.{dimensionsVerdict}
 use Rattle.tables.proofs.Filling.{total-is, total-short, total-enough, total-rows}
 use Rattle.tables.proofs.Answering.{file-refused, file-kept, too-short, short-kept, enough, enough-filled}
@@ -10,7 +9,7 @@ use Rattle.tables.proofs.dimensions.dimensions.Tie as tie
 
 returns : tie.Need-returns
 unfolding dimensionsVerdict
-returns c = (search (too-short, total-is, total-short), search (short-kept, total-short))
+returns c = (search (too-short, total-short), search (short-kept, total-short))
 
 returns-2 : tie.Need-returns-2
 unfolding dimensionsVerdict
@@ -27,11 +26,11 @@ dimensions-spec =
     (λ c κs. search needs)
     (λ c. search needs)
     (λ c. search needs)
-    (λ c κs. search accepted)
-    (λ c κs. search accepted)
+    (λ c κs. search accepted-file)
+    (λ c κs. search accepted-file)
     (λ c κs. search needs)
     returns
-    (λ c κs. search (accepted, total-enough))
+    (λ c κs. search (accepted-file, total-enough))
     returns-2
     (λ c. search needs)
     (λ c. search needs)

@@ -13,7 +13,7 @@ abbrev μ-loop : tie.MeasureT-loop
 μ-loop s k e c r numbers₀ starts₀ j₀ numbers starts j = c - j
 
 put-dimension-requires : tie.Need-put-dimension-requires Inv-loop μ-loop
-put-dimension-requires c κs = ((search, omega arith, omega arith), search dimensions-room)
+put-dimension-requires c κs = ((search, search, omega arith, omega arith), search dimensions-room)
 
 pub put-dimensions-of-spec : {M : Type 1} → statement M
 put-dimensions-of-spec =

@@ -1,17 +1,17 @@
 -- `tables::put_tiles` meets its contract.
 use Prim.Native.Nat.{_-_}
 use native.Mathlib.Omega.{arith}
-use Rattle.judge.proofs.AcceptedFile.{accepted-long, accepted-entries}
+use Rattle.judge.proofs.AcceptedFile.{accepted-under, accepted-long, accepted-entries}
 use Rattle.judge.proofs.EntryLoop.{at-fixed}
 use Rattle.tables.proofs.Filling.{TilesFilling, tiles-start, tiles-at, tiles-room, tiles-next, tiles-end, tiles-all}
 use Rattle.tables.proofs.tiles.put_tiles.Statement.{statement}
 use Rattle.tables.proofs.tiles.put_tiles.Tie as tie
 
 abbrev Inv-loop : tie.InvT-loop
-Inv-loop s n numbers₀ starts₀ e₀ k₀ numbers starts e k = TilesFilling s n e k numbers₀ starts₀ numbers starts
+Inv-loop s release n numbers₀ starts₀ e₀ k₀ numbers starts e k = TilesFilling s release n e k numbers₀ starts₀ numbers starts
 
 abbrev μ-loop : tie.MeasureT-loop
-μ-loop s n numbers₀ starts₀ e₀ k₀ numbers starts e k = n - k
+μ-loop s release n numbers₀ starts₀ e₀ k₀ numbers starts e k = n - k
 
 loop-holds : tie.Need-loop-holds Inv-loop μ-loop
 loop-holds c = search tiles-start
@@ -28,10 +28,10 @@ put-tiles-spec =
     (tie.spec
     Inv-loop
     μ-loop
-    (λ c κs. search (accepted-long, accepted-entries))
+    (λ c κs. search (accepted-under, accepted-long, accepted-entries))
     loop-holds
     (λ c κs. search (tiles-at, tiles-room))
-    (λ c κs. search (at-fixed, tiles-all))
+    (λ c κs. search (accepted-under, at-fixed, tiles-all))
     (λ c. omega arith)
     (λ c. omega arith)
     loop-again

@@ -2,6 +2,7 @@
 use native.Mathlib.Omega.{arith}
 use borrow.Author.Needs.{needs}
 use Rattle.format.proofs.Answering.{accepted}
+use Rattle.judge.proofs.AcceptedFile.{accepted-file}
 use Rattle.tables.specs.Tables.{tilesVerdict}
 use Rattle.tables.proofs.Filling.{tiles-few, tiles-short, tiles-enough}
 use Rattle.tables.proofs.Answering.{file-refused, file-kept, too-short, short-kept, enough, enough-filled}
@@ -27,8 +28,8 @@ tiles-spec =
     (λ c κs. search needs)
     (λ c. search needs)
     (λ c. search needs)
-    (λ c κs. search accepted)
-    (λ c κs. (search (tiles-few, accepted), omega arith, omega arith))
+    (λ c κs. search accepted-file)
+    (λ c κs. (search (tiles-few, accepted-file), omega arith, omega arith))
     returns
     (λ c κs. search (accepted, tiles-enough))
     returns-2
