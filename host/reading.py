@@ -1,11 +1,14 @@
-"""The listing of papers 01 and 02, read straight from their text and apart from the crates.
+"""The listing of papers 01 and 02, and the settings and sheet of a quote, read straight from their text and apart from the
+crates.
 
 As a program it lists standard input, by release 1.2 or by the one that is named: 1.02. It is plain on purpose: the papers'
-sentences in their order.
+sentences in their order. With the word settings it reads the lines of `selfcheck --settings N` and says where it reads
+settings otherwise.
 """
 import re
 import struct
 import sys
+from decimal import Decimal
 
 NAMES = [b"ZISRAWFILE", b"ZISRAWDIRECTORY", b"ZISRAWSUBBLOCK", b"ZISRAWMETADATA", b"ZISRAWATTACH",
          b"ZISRAWATTDIR", b"DELETED"]
@@ -244,5 +247,52 @@ def figures(file, release="1.2"):
         len(file), len(read.segments), len(read.tiles), read.attachments, box)
 
 
-if __name__ == "__main__":
+# The settings of a quote, Req 09: a pitch in micrometres, and all lines. Of bytes \d is 0 to 9.
+PITCH = rb"\d{1,5}(?:\.\d{1,3})?"
+SETTINGS = re.compile(rb"edition=([12])\npitch_x=(" + PITCH + rb")\npitch_y=(" + PITCH + rb")\n(?:masks=(on|off)\n)?")
+
+
+def settings(text):
+    """Whether masks are on, and both pitches in nanometres. Raises Refused, 34 or 35."""
+    refuse(b"," in text, 34, text.find(b","))
+    said = SETTINGS.fullmatch(text)
+    refuse(said is None, 35, 0)
+    edition, *pitches, masks = said.groups()
+    pitches = [int(Decimal(pitch.decode("ascii")) * 1000) for pitch in pitches]
+    refuse(not all(1 <= pitch <= 65535 for pitch in pitches), 35, 0)
+    return masks == b"on" if masks else edition == b"2", *pitches
+
+
+def sheet(covered, pitch_x, pitch_y):
+    """The text of the sheet, as bytes."""
+    return b"covered=%d\narea_nm2=%d\n" % (covered, covered * pitch_x * pitch_y)
+
+
+def said_of_settings(text, covered):
+    """What a line of `selfcheck --settings` ends with."""
+    try:
+        masks, *pitches = settings(text)
+    except Refused as r:
+        return b"refused=%d\nplace=%d\n" % (r.number, r.place)
+    return (b"masks=On\n" if masks else b"masks=Off\n") + sheet(covered, *pitches)
+
+
+def compare_settings(lines):
+    """Reads the lines; answers whether all are as they say, and at least one in ten sound."""
+    count, sound = 0, 0
+    for line in lines:
+        text, covered, said = line.split()
+        text, said = bytes.fromhex(text[2:]), bytes.fromhex(said[2:])
+        read = said_of_settings(text, int(covered))
+        if read != said:
+            print(f"DIFFERENT: settings {text}: {read} instead of {said}")
+            return False
+        count, sound = count + 1, sound + (not said.startswith(b"refused"))
+    print(f"settings by a third reading: {count}, of which {sound} are sound")
+    return sound * 10 > count > 0
+
+
+if __name__ == "__main__" and sys.argv[1:] == ["settings"]:
+    sys.exit(0 if compare_settings(sys.stdin) else 1)
+elif __name__ == "__main__":
     sys.stdout.buffer.write(listing(sys.stdin.buffer.read(), *sys.argv[1:2]))

@@ -1,8 +1,9 @@
-/* Reads CZI microscope files (ZISRAW): judges one, hands out its parts and records, lists it, and composes its planes.
+/* Reads CZI microscope files (ZISRAW): judges one, hands out its parts and records, lists it, composes its planes, and
+ * writes a quote sheet of one.
  *
  * A file is lent as its bytes, a pointer and a length. Any bytes and any number get an answer: nothing has to be
- * checked before a call, and no call changes a byte of the file. Lent to be written are a target, a map, marks and the
- * arrays of records: a refused call changes none of them.
+ * checked before a call, and no call changes a byte of the file. Lent to be written are a target, a map, a sheet, marks
+ * and the arrays of records: a refused call changes none of them.
  *
  * release is that of the format by which the file is judged: CZI_RELEASE_1_2, or CZI_RELEASE_1_02, which has no chunk
  * containers. Use the names CZI_RELEASE_1_2 and CZI_RELEASE_1_02: any other number is 1.2, 102 too. The caller says it,
@@ -14,9 +15,9 @@
  *
  * Every function with a file but czi_list returns the number of the refusal, 0 where there is none. A single number
  * behind an out-pointer is part of the answer: it is written always, and is 0 where there is nothing to say.
- *   place   where the refusal is, as a byte offset in the file; 0 where there is none.
+ *   place   where the refusal is, as a byte offset in the file, of 34 in the settings; 0 where there is none.
  * Each question judges the whole file first: a file that czi_judge refuses is refused so by all of them under the same
- * release (but that czi_list looks at the length before).
+ * release (but that czi_list looks at the length before, and czi_quote at its settings).
  *
  * What a caller owes, which nothing here tests:
  *   - No pointer is NULL, not even that of a file of length 0: CZI_NONE is a pointer for what has no length.
@@ -69,15 +70,20 @@
  *                       holds; or it is the tile's second.
  *   20 window           Of a composer: a side is not 1 to 65,536, or the right or bottom edge is above 2,147,483,647.
  *   21 asked pixel      Of a composer: there is no such pixel type, or the background is not one pixel long.
- *   22 lent too short   Of a composer: the target or the map is too short. Of czi_tiles, czi_dimensions and czi_chosen: an
- *                       array is too short for all tiles, or for all of their dimensions.
+ *   22 lent too short   Of a composer: the target or the map is too short. Of czi_quote: that, or the sheet has under 49
+ *                       bytes. Of czi_tiles, czi_dimensions and czi_chosen: an array is too short for all tiles, or for
+ *                       all of their dimensions.
  *   23 a tile's type    Of a composer: a selected tile that meets the window has another pixel type than was asked for;
  *                       the place is the first such entry's.
  *   24 no such number   There is no tile, dimension or attachment of the number asked for; they are counted from 0.
  *   30 too long to list Of czi_list: the file has over 65,536 bytes.
- * The first that applies is given, in this order: 30; 1; for each segment 4, 2, 3, 5; 6; 7; 8; 9; the sub-block
- * directory entry by entry, each with its sub-block and its chunks; the metadata segment; the attachment directory
- * entry by entry; then 20 to 24. czi_refusal_words has a line for each.
+ *   34 comma            Of czi_quote: there is a comma in the settings, wherever it stands. The place is the first
+ *                       one's offset in the settings, not in the file.
+ *   35 settings         Of czi_quote: the settings are not the lines that they have to be, or a pitch does not come to
+ *                       1 to 65,535 nanometres.
+ * Of czi_quote 20, 21 and 23 are as of a composer. The first that applies is given, in this order: 30; 34; 35; 1; for
+ * each segment 4, 2, 3, 5; 6; 7; 8; 9; the sub-block directory entry by entry, each with its sub-block and its chunks;
+ * the metadata segment; the attachment directory entry by entry; then 20 to 24. czi_refusal_words has a line for each.
  *
  * Each function is proved to give exactly what its contract says (crates/czi/src; what the contracts cite is
  * in crates/czi/specs). host/tests/interface holds the declarations here against those there; what the words here say
@@ -305,6 +311,49 @@ uint32_t czi_compose_quick(const uint8_t *file, size_t file_len, uint32_t releas
                            int32_t left, int32_t top, uint32_t width, uint32_t height, uint32_t masks,
                            uint8_t *target, size_t target_len, uint8_t *map, size_t map_len,
                            uint64_t *place, uint64_t *covered, uint64_t *stored);
+
+/* ---- The quote sheet: a window is composed as settings say, and the sheet has the covered count and the area that it
+ * comes to.
+ *
+ * starts, any_scene, pixel_type, background, left, top, width, height, target and map are those of a composer, and target
+ * and map are left as either composer leaves them. The choice of masks is the settings'.
+ *
+ * settings     lines in this order, each ended by a newline, a byte of 10:
+ *                edition=   1 or 2
+ *                pitch_x=   how wide a pixel is, in micrometres: one to five digits, or these, a point, and one to three
+ *                           digits more. Zeros in front are digits too. It comes to 1 to 65,535 nanometres.
+ *                pitch_y=   how high it is, said in the same way
+ *                masks=     on or off. This line alone may lack, which means off in edition 1 and on in edition 2.
+ *              And nothing else: no blank, sign, exponent, unit, carriage return or empty line, nothing behind the last
+ *              line. They are bytes with a length, and no zero byte ends them.
+ * sheet        two such lines: covered= with the count, area_nm2= with the count times both pitches in nanometres, which
+ *              is an area in square nanometres. Both are in plain decimal, without zeros in front, and below 2^64. The
+ *              text has at most CZI_SHEET_MIN bytes; what of sheet is past it stays, and no zero byte is put behind it.
+ *
+ * The refusals, in this order:
+ *   34 a comma anywhere in the settings, behind another fault too: place is the first one's offset in the settings
+ *   35 any other fault of the settings, at place 0; empty ones are 35 too
+ *   then those of the file, and 20, 21, 22 and 23 as of a composer; 22 also where sheet has under CZI_SHEET_MIN bytes,
+ *   however short the text would be
+ * A refused call changes no byte of target, map and sheet.
+ *
+ * covered      how many pixels a tile gave, as of a composer: the number in the sheet. 0 where refused.
+ * written      how many bytes the sheet's text has. 0 where refused.
+ *
+ * The areas of two windows into which one is cut add up to that one's. What the pitch is, the settings alone say: the
+ * file's own metadata are not asked. */
+
+/* The least length of a sheet. */
+enum { CZI_SHEET_MIN = 49 };
+
+uint32_t czi_quote(const uint8_t *file, size_t file_len, uint32_t release,
+                   const int32_t *starts, size_t starts_len, uint32_t any_scene,
+                   uint32_t pixel_type, const uint8_t *background, size_t background_len,
+                   int32_t left, int32_t top, uint32_t width, uint32_t height,
+                   const uint8_t *settings, size_t settings_len,
+                   uint8_t *target, size_t target_len, uint8_t *map, size_t map_len,
+                   uint8_t *sheet, size_t sheet_len,
+                   uint64_t *place, uint64_t *covered, uint64_t *written);
 
 /* ---- Which tiles a question selects, and which of them share a pixel with its window: by the same definitions as the
  * composers. Masks do not enter.

@@ -12,14 +12,14 @@ static inline const char *czi_refusal_words(uint32_t number) {
     case 1: return "length 0, not a multiple of 32, or above 2^40";
     case 2: return "unknown name";
     case 3: return "AllocatedSize negative or not a multiple of 32; UsedSize negative or larger; end past the file";
-    case 4: return "more than 8,192 segments";
+    case 4: return "more than 8192 segments";
     case 5: return "the first segment is not the file segment or is under 80 bytes long, or a later one is a "
                    "file segment";
     case 6: return "Major not 1";
     case 7: return "a FilePart not 0";
     case 8: return "UpdatePending not 0";
     case 9: return "a directory or the metadata is said to be where no such segment begins";
-    case 10: return "a directory is too short for its entries, or has a negative number of them or over 4,096; or "
+    case 10: return "a directory is too short for its entries, or has a negative number of them or over 4096; or "
                     "the metadata segment's sizes are negative or too large for it";
     case 11: return "entry not well formed";
     case 12: return "pixel type not listed";
@@ -30,12 +30,14 @@ static inline const char *czi_refusal_words(uint32_t number) {
                     "too many bytes of pixels";
     case 17: return "chunk not as the rules say";
     case 18: return "mask not as the rules say";
-    case 20: return "window side not 1 to 65,536, or right or bottom edge above 2,147,483,647";
+    case 20: return "window side not 1 to 65536, or right or bottom edge above 2147483647";
     case 21: return "asked type not listed, or background not one pixel long";
-    case 22: return "target, map or array too short";
+    case 22: return "target, map, sheet or array too short";
     case 23: return "a selected tile that meets the window has another type";
     case 24: return "no entry of that number, counted from 0";
-    case 30: return "listing only: input over 65,536 bytes";
+    case 30: return "listing only: input over 65536 bytes";
+    case 34: return "a comma in the settings; the place is its offset in them";
+    case 35: return "settings not as the rules say, or a pitch not 0.001 to 65.535 micrometres";
     default: return "there is no such refusal";
     }
 }
@@ -62,7 +64,8 @@ static inline void *czi_none(void) {
     return &nothing;
 }
 
-/* It goes wherever a pointer is asked for with a length of 0: a file, starts, a target, a map, marks, arrays of records. */
+/* It goes wherever a pointer is asked for with a length of 0: a file, starts, settings, a target, a map, a sheet, marks,
+ * arrays of records. */
 #ifdef __cplusplus
 struct czi_nothing {
     template <class T> operator T *() const { return static_cast<T *>(czi_none()); }

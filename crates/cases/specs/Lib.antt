@@ -3,3 +3,4 @@ pub mod Cases
 pub mod Counts
 pub mod Written
 pub mod Sections
+pub mod Quotes

@@ -1,4 +1,4 @@
--- Every refusal of a file, of a question by number or of a composer has a number of at most 30. Assumes nothing.
+-- Every refusal of a file, of a question by number or of a composer has a number of at most 30, and of a quote of at most 35. Assumes nothing.
 use Prim.Native.Nat.{ℕ, zero, suc, _≤_}
 use mathlib.Core.Path.{_≡_, refl}
 use mathlib.Core.List.{List, [], _∷_, _++_}
@@ -8,7 +8,7 @@ use lib.ListN.{length}
 use lib.Dec.{eqb, leb, ltb}
 use borrow.Author.Tests.{leb-true}
 use Rattle.format.specs.Scan.{Scan, blockFile}
-use Rattle.format.specs.Checks.{Check, first, rowsBelow, numberOf}
+use Rattle.format.specs.Checks.{Check, first, rowsBelow, andThen, numberOf}
 use Rattle.format.specs.Segments.{nextSegment, segmentRows, walkRows, segmentsRows}
 use Rattle.format.specs.File.{attachmentDirectoryPosition, fileRows}
 use Rattle.format.specs.Entry.{filePosition}
@@ -19,7 +19,7 @@ use Rattle.format.specs.Rules.{checks, verdict, tileVerdict, attachmentVerdict}
 use Rattle.format.specs.Records.{dimensionVerdict}
 use Rattle.format.specs.Answers.{VerdictAnswered, SpanAnswered, TileAnswered, DimensionAnswered, AttachmentAnswered, spanVerdict, dimensionVerdictIn}
 use Rattle.format.specs.declared.Verdict.{Verdict}
-use Rattle.format.specs.declared.Verdict.the-variants.{Refused}
+use Rattle.format.specs.declared.Verdict.the-variants.{Accepted, Refused}
 use Rattle.format.specs.declared.Span.{Span}
 use Rattle.format.specs.declared.SpanAnswer.{SpanAnswer}
 use Rattle.format.specs.declared.Tile.{Tile}
@@ -37,8 +37,13 @@ use Rattle.listing.specs.declared.Summary.{Summary}
 use Rattle.listing.specs.declared.SummaryAnswer.{SummaryAnswer}
 use Rattle.plane.specs.Turns.{Kind}
 use Rattle.question.specs.Question.{askRows, agreeRows}
-use Rattle.question.specs.Call.{Asked, callVerdict, Answered, numberIn}
+use Rattle.question.specs.Call.{Asked, callVerdict, lendingVerdict, Answered, numberIn}
 use Rattle.question.specs.declared.Composed.{Composed}
+use Rattle.settings.specs.Reading.{settingsBad, settingsIn}
+use Rattle.settings.specs.Answers.{commaPlace, settingsRows, settingsVerdict}
+use Rattle.quote.specs.Quote as Quote
+use Rattle.quote.specs.Quote.{QuoteAsked, askedWith, sheetBad, quoteVerdict, QuoteAnswered}
+use Rattle.quote.specs.declared.Quoted.{Quoted}
 use Rattle.format.proofs.Below.{and-both}
 
 -- every row has such a number: of rows that are written out this computes
@@ -170,3 +175,24 @@ call-low a target map = checks-then (a .scan) _ (lows-below (tileCount (a .scan 
 -- a composer's answer r
 pub answer-low : {k : Kind} {a : Asked} {t m t′ m′ : List ℕ} {r : Composed} → Answered k a t m t′ m′ r → numberIn r ≤ 30
 answer-low {a = a} {t = t} {m = m} h = rw (h .number-is) (call-low a (length t) (length m))
+
+-- ---- a quote
+
+lending-low : (a : Asked) (target map : ℕ) (short : Bool) → numberOf (lendingVerdict a target map short) ≤ 30
+unfolding lendingVerdict askRows agreeRows lows
+lending-low a target map short = checks-then (a .scan) _ (lows-below (tileCount (a .scan .file)) _ (λ k. refl))
+
+either-low : (a b : Bool) (p : ℕ) (v : Verdict) → numberOf v ≤ 30 → numberOf (andThen (cond a (Refused 34 p) (cond b (Refused 35 0) Accepted)) v) ≤ 35
+either-low true b p v h = omega arith
+either-low false true p v h = omega arith
+either-low false false p v h = omega arith
+
+quote-verdict-low : (q : QuoteAsked) (target map sheet : ℕ) → numberOf (quoteVerdict q target map sheet) ≤ 35
+unfolding quoteVerdict settingsVerdict settingsRows
+quote-verdict-low q target map sheet =
+    let a = askedWith (settingsIn (q .settings)) q in
+    either-low (ltb (commaPlace (q .settings)) (length (q .settings))) (settingsBad (q .settings)) (commaPlace (q .settings))
+    (lendingVerdict a target map (sheetBad sheet)) (lending-low a target map (sheetBad sheet))
+
+pub quote-low : {k : Kind} {q : QuoteAsked} {t m u t′ m′ u′ : List ℕ} {r : Quoted} → QuoteAnswered k q t m u t′ m′ u′ r → Quote.numberIn r ≤ 35
+quote-low {q = q} {t = t} {m = m} {u = u} h = rw (h .number-is) (quote-verdict-low q (length t) (length m) (length u))

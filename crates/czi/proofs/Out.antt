@@ -32,6 +32,12 @@ use Rattle.format.specs.declared.AttachmentAnswer.the-variants as AttachmentIs
 use Rattle.tables.specs.Numbers.{tileNumbers, tileStarts}
 use Rattle.tables.specs.Tables.{tilesVerdict, TileArrays, TableAnswered}
 use Rattle.tables.specs.declared.tiles.Table.{Table}
+use Rattle.quote.specs.Quote as Quote
+use Rattle.quote.specs.Quote.{QuoteAsked, quotedCovered, quotedLength, QuoteAnswered}
+use Rattle.quote.specs.Steps.{quoteAsked}
+use Rattle.quote.specs.declared.QuoteRequest.{QuoteRequest}
+use Rattle.quote.specs.declared.Quoted.{Quoted}
+use Rattle.czi.specs.Quote.{quoteRequest, QuoteOut}
 use Rattle.text.specs.Text.{textOf, Clean}
 use Rattle.text.specs.declared.Text.{Text}
 use Rattle.text.proofs.Texts.{text-length}
@@ -162,3 +168,31 @@ pub plane-out : {k : Kind} {bs : List ℕ} {rel : Release} {starts : List ℤ} {
 plane-out h e en ep ec es =
     rw (← e)
     (record { number-is = cc; place-is = cc; covered-is = cc; stored-is = cc; target-is = h .target-is; map-is = h .map-is })
+
+-- what a quote answered about the request f under the release rel, said of g and by
+pub quote-said : {k : Kind} {bs : List ℕ} {rel by : Release} {starts : List ℤ} {any : Bool} {f : QuoteRequest} {type : ℕ} {left top : ℤ} {width height : ℕ}
+    {background settings t m u t′ m′ u′ : List ℕ} {r : Quoted}
+    → QuoteAnswered k (quoteAsked bs rel starts any f background settings) t m u t′ m′ u′ r → rel ≡ by
+    → f ≡ quoteRequest type (toZ w32 (ofZ w32 left)) (toZ w32 (ofZ w32 top)) width height → mag left < 2 ^ 31 → mag top < 2 ^ 31
+    → QuoteAnswered k (quoteAsked bs by starts any (quoteRequest type left top width height) background settings) t m u t′ m′ u′ r
+quote-said {left = left} {top = top} h e f l t = rw (← e, ← read-back left l, ← read-back top t, ← f) h
+
+-- what is given to C of it, left and top read back
+pub quote-out : {k : Kind} {bs : List ℕ} {rel : Release} {starts : List ℤ} {any : Bool} {type : ℕ} {left top : ℤ} {width height : ℕ}
+    {background settings t m u t′ m′ u′ : List ℕ} {r : Quoted} {number place covered written : ℕ}
+    → QuoteAnswered k (quoteAsked bs rel starts any (quoteRequest type (toZ w32 (ofZ w32 left)) (toZ w32 (ofZ w32 top)) width height) background settings)
+    t m u t′ m′ u′ r
+    → mag left < 2 ^ 31 → mag top < 2 ^ 31
+    → number ≡ Quote.numberIn r → place ≡ Quote.placeIn r → covered ≡ quotedCovered r → written ≡ quotedLength r
+    → QuoteOut k (quoteAsked bs rel starts any (quoteRequest type left top width height) background settings) t m u t′ m′ u′ number place covered written
+quote-out {left = left} {top = top} h l t en ep ec ew =
+    rw (← read-back left l, ← read-back top t)
+    (record {
+      number-is = en ∙ ap Quote.numberIn (h .answer-is);
+      place-is = ep ∙ ap Quote.placeIn (h .answer-is);
+      covered-is = ec ∙ ap quotedCovered (h .answer-is);
+      written-is = ew ∙ ap quotedLength (h .answer-is);
+      target-is = h .target-is;
+      map-is = h .map-is;
+      sheet-is = h .sheet-is;
+    })

@@ -4,3 +4,4 @@ pub mod Chosen
 pub mod Numbers
 pub mod Out
 pub mod Plane
+pub mod Quote

@@ -5,6 +5,7 @@
 pub mod chosen;
 pub mod figures;
 pub mod planes;
+pub mod quotes;
 pub mod records;
 pub mod verdict;
 pub mod views;

@@ -9,10 +9,10 @@ use Rattle.format.specs.Segments.{walked}
 use Rattle.format.specs.Entry.{letterPlace, isPyramid}
 use Rattle.format.specs.Directory.{tileCount, entryPlace}
 use Rattle.format.specs.Attachments.{attachmentCount}
-use Rattle.text.specs.Text.{decimal, textOf, Clean}
+use Rattle.text.specs.Text.{decimal, line, textOf, Clean}
 use Rattle.text.specs.declared.Text.{Text}
 use Rattle.listing.specs.Summary.{plain, leastOf, greatestOf, nearEdge, farEdge, boundsOf}
-use Rattle.listing.specs.Listing.{nameBytes, nameSegments, nameTiles, nameAttachments, nameBox, line, boxText}
+use Rattle.listing.specs.Listing.{nameBytes, nameSegments, nameTiles, nameAttachments, nameBox, boxText}
 use Rattle.listing.specs.declared.Bounds.{Bounds}
 use Rattle.listing.specs.declared.Corners.{Corners}
 use Rattle.listing.specs.declared.Figures.{Figures}

@@ -13,7 +13,7 @@ use Rattle.format.specs.Rules.{verdict}
 use Rattle.format.specs.declared.Release.{Release}
 use Rattle.format.specs.declared.Verdict.{Verdict}
 use Rattle.format.specs.declared.Verdict.the-variants.{Accepted, Refused}
-use Rattle.text.specs.Text.{decimal, signedDecimal}
+use Rattle.text.specs.Text.{decimal, signedDecimal, line}
 use Rattle.listing.specs.Summary.{plain, left, top, right, bottom}
 
 -- ---- the names
@@ -51,9 +51,6 @@ unfoldable pub namePlace : List ℕ
 namePlace = 112 ∷ 108 ∷ 97 ∷ 99 ∷ 101 ∷ 61 ∷ []
 
 -- ---- the lines
-
-unfoldable pub line : List ℕ → List ℕ → List ℕ
-line name value = name ++ value ++ (10 ∷ [])
 
 -- left,top,right,bottom (a comma is 44), or none
 unfoldable pub boxText : Bool → ℕ → ℕ → ℕ → ℕ → List ℕ

@@ -2,6 +2,7 @@
 use format::Release;
 use format::Verdict;
 use text::Text;
+use text::put_line;
 ghost use mathlib.Core.Path.{_≡_};
 ghost use mathlib.Core.Bool.{false};
 ghost use mathlib.Core.List.{[], _∷_};
@@ -13,9 +14,9 @@ ghost use Rattle.format.specs.Segments.{walked};
 ghost use Rattle.format.specs.Entry.{nextEntry, letterPlace, dimensionsBad};
 ghost use Rattle.format.specs.Directory.{tileCount};
 ghost use Rattle.format.specs.Rules.{verdict, AcceptedFile};
-ghost use Rattle.text.specs.Text.{decimal, signedDecimal, textOf, Clean, Appended};
+ghost use Rattle.text.specs.Text.{signedDecimal, line, textOf, Clean, Appended};
 ghost use Rattle.listing.specs.Summary.{nearEdge, farEdge, summaryOf, SummaryAnswered};
-ghost use Rattle.listing.specs.Listing.{nameBox, line, refusalText, listingOf};
+ghost use Rattle.listing.specs.Listing.{nameBox, refusalText, listingOf};
 ghost use Rattle.listing.specs.Figures.{cornersBelow, withTile, Held, figuresOf, boundsBy, boxBy, summaryBy, textBy, Says};
 
 // The box over the tiles that are not pyramid tiles, right and bottom exclusive.
@@ -243,16 +244,6 @@ fn put_number(t: Text, x: u64) -> Text
     ensures { λ r. ⌜ Appended t (signedDecimal x) r × (r .length ≤ t .length + 11) ⌝ }
 {
     text::put_signed(t, x)
-}
-
-// The text with a line after it: a name and a number.
-fn put_line(t: Text, name: &[u8], x: u64) -> Text
-    requires { ⌜ Clean t × (t .length + length (now name) + 21 ≤ 192) ⌝ }
-    ensures { λ r. ⌜ Appended t (line (now (name .entry)) (decimal x)) r × (r .length ≤ t .length + length (now (name .entry)) + 21) ⌝ }
-{
-    let named = text::put(t, name);
-    let valued = text::put_decimal(named, x);
-    text::push(valued, 10)
 }
 
 // The text with a comma and a coordinate after it.

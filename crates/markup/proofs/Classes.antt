@@ -5,7 +5,7 @@ use mathlib.Core.Bool.{Bool, true, false, not}
 use lib.Dec.{eqb}
 use borrow.Author.Tests.{not-true, not-false}
 use Rattle.format.specs.Markup.{textByte}
-use Rattle.markup.specs.Stretches.{notQuote}
+use Rattle.markup.specs.Stretches.{otherThan}
 use Rattle.format.proofs.Flags.{flags, eq-yes, eq-no, not-is-true, not-is-false}
 
 -- the opposite of a test
@@ -33,11 +33,11 @@ of-class of r x b e f h = rw (← f, ← e) (not-false r h)
 pub of-other : (of : ℕ → Bool) (r : Bool) (x b : ℕ) → r ≡ of x → x ≡ b → not r ≡ true → of b ≡ false
 of-other of r x b e f h = rw (← f, ← e) (not-true r h)
 
--- the quote that is sought, and another byte
-pub quote-goes : (q r b : ℕ) → r ≡ b → (r ≡ q → ⊥) → notQuote q b ≡ true
-unfolding notQuote
-quote-goes q r b e h = not-is-true _ (eq-no r b q e h)
+-- the byte that is sought, and another
+pub other-goes : (q r b : ℕ) → r ≡ b → (r ≡ q → ⊥) → otherThan q b ≡ true
+unfolding otherThan
+other-goes q r b e h = not-is-true _ (eq-no r b q e h)
 
-pub quote-stops : (q r b : ℕ) → r ≡ b → r ≡ q → notQuote q b ≡ false
-unfolding notQuote
-quote-stops q r b e h = not-is-false _ (eq-yes r b q e h)
+pub other-stops : (q r b : ℕ) → r ≡ b → r ≡ q → otherThan q b ≡ false
+unfolding otherThan
+other-stops q r b e h = not-is-false _ (eq-yes r b q e h)

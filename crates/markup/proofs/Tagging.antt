@@ -12,7 +12,7 @@ use Rattle.format.specs.Bytes.{anyOf}
 use Rattle.format.specs.Markup.{start, empty, FirstByte, quote, behind, behindTag, quoteAfter}
 use Rattle.format.proofs.Below.{by-bool}
 use Rattle.format.proofs.Stretches.{behind-begins}
-use Rattle.markup.specs.Stretches.{stretch, notQuote, Passed}
+use Rattle.markup.specs.Stretches.{stretch, otherThan, Passed}
 use Rattle.markup.specs.Tokens.{Stands, Unquoted, Past, tagToken, tagBehind}
 use Rattle.markup.specs.declared.Token.{Token}
 use Rattle.markup.specs.declared.Token.the-variants.{Broken, Start, Empty}
@@ -26,8 +26,8 @@ unquoted [] = none
 unquoted (b ∷ bs) = behindTag 0 b bs
 
 -- within quotes all is passed up to the quote that closes them
-in-quotes : (q last : ℕ) (bs : List ℕ) → 0 < q → behindTag q last bs ≡ unquoted (behind (notQuote q) bs)
-unfolding behindTag behind quoteAfter notQuote
+in-quotes : (q last : ℕ) (bs : List ℕ) → 0 < q → behindTag q last bs ≡ unquoted (behind (otherThan q) bs)
+unfolding behindTag behind quoteAfter otherThan
 in-quotes q last [] h = refl
 in-quotes q last (b ∷ bs) h =
     by-bool (eqb b q)
@@ -35,13 +35,13 @@ in-quotes q last (b ∷ bs) h =
     (λ e. rw (ne-eqb q 0 (λ z. omega arith), e) (in-quotes q b bs h))
 
 -- what stops is the quote
-stops-at : (q b : ℕ) (xs bs : List ℕ) → behind (notQuote q) xs ≡ b ∷ bs → b ≡ q
-unfolding notQuote
+stops-at : (q b : ℕ) (xs bs : List ℕ) → behind (otherThan q) xs ≡ b ∷ bs → b ≡ q
+unfolding otherThan
 stops-at q b xs bs e =
     let f : FirstByte (λ c. not (not (eqb c q))) (b ∷ bs) = subst (FirstByte (λ c. not (not (eqb c q)))) e (behind-begins (λ c. not (eqb c q)) xs) in
     eqb-true b q (not-false (eqb b q) (not-true (not (eqb b q)) f))
 
-module _ (bs : List ℕ) (at end q mark : ℕ) (p : Passed (notQuote q) bs at end mark) (fits : end ≤ length bs) (pos : 0 < q) where
+module _ (bs : List ℕ) (at end q mark : ℕ) (p : Passed (otherThan q) bs at end mark) (fits : end ≤ length bs) (pos : 0 < q) where
   -- none closes them
   pub quote-open : mark ≡ end → Unquoted bs at end q end
   unfolding behindTag

@@ -11,9 +11,9 @@ use Rattle.format.specs.Markup.{front, behind}
 unfoldable pub stretch : List ℕ → ℕ → ℕ → List ℕ
 stretch bs from to = partOf bs from (to - from)
 
--- all but that quote
-unfoldable pub notQuote : ℕ → ℕ → Bool
-notQuote q b = not (eqb b q)
+-- all but that byte
+unfoldable pub otherThan : ℕ → ℕ → Bool
+otherThan q b = not (eqb b q)
 
 -- the bytes of the class reach from `at` to `stop`, and no further before `end`
 pub record Passed (of : ℕ → Bool) (bs : List ℕ) (at end stop : ℕ) : Type 0 where

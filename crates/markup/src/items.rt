@@ -50,7 +50,7 @@ fn behind_quote(s: &[u8], at: u64, end: u64, q: u64) -> u64
     requires { ⌜ (at ≤ end) × (end ≤ length (now s)) × (0 < q) ⌝ }
     ensures { λ r. ⌜ Unquoted (now (s .entry)) at end q r ⌝ }
 {
-    let mark = stretches::quote_end(s, at, end, q);
+    let mark = stretches::next_byte(s, at, end, q);
     if mark == end {
         return end;
     }

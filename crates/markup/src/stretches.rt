@@ -3,7 +3,7 @@ ghost use mathlib.Core.Path.{_≡_};
 ghost use Prim.Native.Nat.{_+_, _≤_};
 ghost use lib.ListN.{length};
 ghost use Rattle.format.specs.Markup.{white, nameByte, textByte, begins};
-ghost use Rattle.markup.specs.Stretches.{stretch, notQuote, Passed, First};
+ghost use Rattle.markup.specs.Stretches.{stretch, otherThan, Passed, First};
 
 // Whether a byte is white space.
 fn is_white(b: u64) -> bool
@@ -85,10 +85,10 @@ pub fn text_end(s: &[u8], at: u64, end: u64) -> u64
     i
 }
 
-// Where the next quote q stands from at on; end where there is none.
-pub fn quote_end(s: &[u8], at: u64, end: u64, q: u64) -> u64
+// Where the next byte q stands from at on; end where there is none.
+pub fn next_byte(s: &[u8], at: u64, end: u64, q: u64) -> u64
     requires { ⌜ (at ≤ end) × (end ≤ length (now s)) ⌝ }
-    ensures { λ r. ⌜ Passed (notQuote q) (now (s .entry)) at end r ⌝ }
+    ensures { λ r. ⌜ Passed (otherThan q) (now (s .entry)) at end r ⌝ }
 {
     let mut i = at;
     while i < end {

@@ -5,6 +5,7 @@ pub mod Asking
 pub mod Agreeing
 pub mod Accepts
 pub mod Calls
+pub mod Lending
 pub mod Halves
 pub mod Demand3
 pub mod Releases

@@ -1,13 +1,13 @@
 -- A whole call of a composer: its verdict, its answer, and what the lent target and map hold in the end.
 use Prim.Native.Nat.{ℕ}
 use mathlib.Core.Path.{_≡_}
-use mathlib.Core.List.{List, _++_}
+use mathlib.Core.List.{List, _∷_, _++_}
 use mathlib.Core.Bool.{Bool}
 use lib.ListN.{length}
 use lib.IntN.{ℤ}
 use Rattle.format.specs.Scan.{Scan}
 use Rattle.format.specs.Choice.{Choice}
-use Rattle.format.specs.Checks.{first, ifAccepted, numberOf, placeOf}
+use Rattle.format.specs.Checks.{row, first, ifAccepted, numberOf, placeOf}
 use Rattle.format.specs.Entry.{pixelBytes}
 use Rattle.format.specs.Directory.{tileCount}
 use Rattle.format.specs.Rules.{checks}
@@ -47,6 +47,15 @@ callVerdict a target map =
     (checks (a .scan) ++
     (askRows (a .request) (a .background) target map ++
     agreeRows (a .scan .file) (chosen a) (requestWindow (a .request)) (a .request .«pixel_type»)))
+
+-- the refusals of a call that is lent one thing more, which may be too short: that is 22 too, and asked with target and map, before 23
+unfoldable pub lendingVerdict : Asked → ℕ → ℕ → Bool → Verdict
+lendingVerdict a target map short =
+    first
+    (checks (a .scan) ++
+    (askRows (a .request) (a .background) target map ++
+    (row 22 0 short ∷
+    agreeRows (a .scan .file) (chosen a) (requestWindow (a .request)) (a .request .«pixel_type»))))
 
 -- the window, bytes a pixel, and the selected tiles
 abbrev pub askedWindow : Asked → Rect

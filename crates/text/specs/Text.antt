@@ -22,6 +22,11 @@ decimal x = digits 20 x
 unfoldable pub signedDecimal : ℕ → List ℕ
 signedDecimal b = cond (ltb b (2 ^ 31)) (45 ∷ decimal (2 ^ 31 - b)) (decimal (b - 2 ^ 31))
 
+-- ---- a line: a name, a value, and a newline (10)
+
+unfoldable pub line : List ℕ → List ℕ → List ℕ
+line name value = name ++ value ++ (10 ∷ [])
+
 -- ---- a text
 
 -- what the text says: its bytes up to its length

@@ -3,7 +3,7 @@ ghost use mathlib.Core.Path.{_≡_};
 ghost use mathlib.Core.List.{[], _∷_};
 ghost use Prim.Native.Nat.{_+_, _^_, _≤_, _<_};
 ghost use lib.ListN.{length};
-ghost use Rattle.text.specs.Text.{digits, decimal, signedDecimal, textOf, Clean, Appended};
+ghost use Rattle.text.specs.Text.{digits, decimal, signedDecimal, line, textOf, Clean, Appended};
 
 // A text: its length, and its bytes, which are 0 from there on.
 pub struct Text {
@@ -68,6 +68,16 @@ pub fn put_decimal(t: Text, x: u64) -> Text
     ensures { λ r. ⌜ Appended t (decimal x) r ⌝ }
 {
     put_digits(t, 20, x)
+}
+
+// The text with a line after it: a name and a number.
+pub fn put_line(t: Text, name: &[u8], x: u64) -> Text
+    requires { ⌜ Clean t × (t .length + length (now name) + 21 ≤ 192) ⌝ }
+    ensures { λ r. ⌜ Appended t (line (now (name .entry)) (decimal x)) r × (r .length ≤ t .length + length (now (name .entry)) + 21) ⌝ }
+{
+    let named = put(t, name);
+    let valued = put_decimal(named, x);
+    push(valued, 10)
 }
 
 // The text with the number b less 2^31 in decimal after it.

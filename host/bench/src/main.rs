@@ -11,6 +11,7 @@ mod native;
 mod planes;
 #[allow(unsafe_code)]
 mod probe;
+mod quote;
 mod report;
 mod scanner;
 mod table;
@@ -23,10 +24,11 @@ use table::table;
 use timing::Rounds;
 
 const USAGE: &str = "\
-usage: bench [--markdown] [--limits] [--metadata] [--times N] [--seconds S]
+usage: bench [--markdown] [--limits] [--metadata] [--quotes] [--times N] [--seconds S]
   --markdown   tables in Markdown
   --limits     the first table alone: the figures to reach
   --metadata   of that the lines about metadata alone
+  --quotes     the lines about quotes alone
   --times N    at least so many repetitions of each measure (21) ..
   --seconds S  .. and for at least so long (5)
 ";
@@ -35,6 +37,7 @@ struct Options {
     markdown: bool,
     limits: bool,
     metadata: bool,
+    quotes: bool,
     rounds: Rounds,
 }
 
@@ -58,6 +61,11 @@ fn main() {
         println!("{}", table(&report.limits, options.markdown));
         return;
     }
+    if options.quotes {
+        let report = Report::of_quotes(options.rounds);
+        println!("{}", table(&report.others, options.markdown));
+        return;
+    }
     let report = Report::new(options.rounds, !options.limits);
     println!("{}", table(&report.limits, options.markdown));
     if !probe::LINKED {
@@ -73,6 +81,7 @@ fn options() -> Option<Options> {
         markdown: false,
         limits: false,
         metadata: false,
+        quotes: false,
         rounds: Rounds {
             times: 21,
             length: Duration::from_secs(5),
@@ -84,6 +93,7 @@ fn options() -> Option<Options> {
             "--markdown" => options.markdown = true,
             "--limits" => options.limits = true,
             "--metadata" => options.metadata = true,
+            "--quotes" => options.quotes = true,
             "--times" => options.rounds.times = words.next()?.parse().ok().filter(|&n| n > 0)?,
             "--seconds" => {
                 options.rounds.length = Duration::from_secs(words.next()?.parse().ok()?);

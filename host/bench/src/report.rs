@@ -4,7 +4,7 @@ use crate::mosaic::TileMask;
 use crate::planes::Call;
 use crate::table::Line;
 use crate::timing::Rounds;
-use crate::{bits, leaves, metadata, probe, whole};
+use crate::{bits, leaves, metadata, probe, quote, whole};
 use czi::PixelType;
 
 /// The pixel types measured, one for each number of bytes.
@@ -35,6 +35,13 @@ impl Report {
         report
     }
 
+    /// Takes the measures of quotes alone.
+    pub fn of_quotes(rounds: Rounds) -> Report {
+        let mut report = Report::default();
+        report.quotes(rounds);
+        report
+    }
+
     /// Takes the measures: all, or those with a limit.
     pub fn new(rounds: Rounds, all: bool) -> Report {
         let mut report = Report::default();
@@ -49,6 +56,9 @@ impl Report {
         report.map_bits(rounds, all);
         report.judge(rounds, all);
         report.metadata(rounds);
+        if all {
+            report.quotes(rounds);
+        }
         if probe::LINKED {
             report.equal_range(rounds);
         }
@@ -155,6 +165,20 @@ impl Report {
             self.limits
                 .push(Line::new(measure, whole, half).at_most(2.2));
         }
+    }
+
+    fn quotes(&mut self, rounds: Rounds) {
+        for of in [PixelType::Gray16, PixelType::Gray8] {
+            let [quote, quick] = quote::whole(of, TileMask::AllValid, rounds);
+            let measure = format!("whole quote, masks on, {} / whole quick call", bytes(of));
+            self.others.push(Line::new(measure, quote, quick));
+        }
+        let [library, native] = quote::garbage(rounds);
+        let measure = "quote by 1 MiB of digits / native search for a comma";
+        self.others.push(Line::new(measure, library, native));
+        let [whole, half] = quote::twice(rounds);
+        let measure = "quote by 2 MiB of digits / by 1 MiB";
+        self.others.push(Line::new(measure, whole, half));
     }
 
     fn equal_range(&mut self, rounds: Rounds) {

@@ -8,11 +8,11 @@ use czi::PixelType;
 use std::time::Duration;
 
 /// The tiles of a row, and of a column.
-const COLUMNS: usize = 5;
+pub const COLUMNS: usize = 5;
 /// A tile's side.
-const TILE: usize = 900;
+pub const TILE: usize = 900;
 /// From one tile to the next: 101 of 900 pixels overlap.
-const STEP: usize = 799;
+pub const STEP: usize = 799;
 
 /// The least times of three calls on tiles of one kind, and of native code.
 pub fn calls(

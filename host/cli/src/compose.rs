@@ -67,7 +67,7 @@ pub fn run(words: Vec<OsString>) -> Result<Answer, Failure> {
         .into_iter()
         .filter(|path| !is_standard(path))
         .collect();
-    let files = look(&files, arguments.flag("--force"), Some(&input))?;
+    let files = look(&files, arguments.flag("--force"), &input.identity())?;
     let places = Places { out, map, files };
     let (sinks, lines) = input.reading(|file| {
         let plane = Plane::new(Scan::new(file).release(release), &question, false)?;
@@ -94,12 +94,7 @@ fn compose(
     composer: Composer,
     places: &Places,
 ) -> Result<(Vec<Sink>, String), Failure> {
-    let missing = |what: &str| Failure::Other(format!("the file has no {what}"));
-    let pixel_type = plane.pixel_type()?;
-    let window = plane
-        .window
-        .ok_or_else(|| missing("box, so a --window must be given"))?;
-    let pixel_type = pixel_type.ok_or_else(|| missing("tiles, so a --type must be given"))?;
+    let (window, pixel_type) = plane.whole()?;
     let (sinks, sums) = paint(plane, window, pixel_type, composer, places)
         .map_err(|failure| plane.explained(window, pixel_type, failure))?;
     let stored = match composer {

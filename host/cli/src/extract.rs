@@ -48,7 +48,7 @@ pub fn run(words: Vec<OsString>) -> Result<Answer, Failure> {
         }
         false => vec![&out],
     };
-    let files = look(&files, arguments.flag("--force"), Some(&input))?;
+    let files = look(&files, arguments.flag("--force"), &input.identity())?;
     let (sink, lines) = input.reading(|file| {
         let bytes = part.of(Scan::new(file).release(release))?;
         let mut sink = Sink::begin(Some(&out), &mut files.iter(), bytes.len() as u64)?;

@@ -11,8 +11,9 @@ usage: czi judge FILE      is the file accepted?
        czi tiles FILE      a line a tile
        czi count FILE      how many pixels of a window are covered
        czi compose FILE    a plane of the file and its coverage map
+       czi quote FILE ..   a quote sheet: the covered pixels, and their area
        czi extract FILE .. the very bytes of a part of the file
-       czi list FILE       the listing of a file of at most 65,536 bytes
+       czi list FILE       the listing of a file of at most 65536 bytes
        czi sample OUT.czi  writes a small mosaic to try these with
        czi help COMMAND    more about a command
        czi help refusals   what each refusal means, and what to do about it
@@ -43,7 +44,7 @@ usage: czi list FILE [--release 1.02|1.2]
 
 Prints the text that the program list prints: five lines, bytes=, segments=,
 tiles=, attachments= and box=, or, where the file is refused, refused= and
-place=; 30 for a file of over 65,536 bytes. A refusal is an answer here, so the
+place=; 30 for a file of over 65536 bytes. A refusal is an answer here, so the
 exit code is 0 for it too, as that of the program list is; czi judge exits 2.
 ~
 The program list judges by release 1.2 always.
@@ -108,7 +109,7 @@ Unless 1.2 gives 17 or 18, both give the same number and place.
 const SAMPLE: &str = "\
 usage: czi sample OUT.czi [--force]
 
-Writes a mosaic of four overlapping tiles, one with a mask, of 6,144 bytes; with -
+Writes a mosaic of four overlapping tiles, one with a mask, of 6144 bytes; with -
 to standard output.
   --force   replaces a file that is there
 ";
@@ -131,7 +132,7 @@ have is refused as 24.
 Prints bytes=, how many they are, with --out - on standard error.
 ";
 
-/// What `count` and `compose` share.
+/// What `count`, `compose` and `quote` share.
 const QUESTION: &str =
     "  --window L,T,W,H   the window of W by H pixels from column L and row T on; left
                      and top may be negative. The file's box unless given, which
@@ -147,9 +148,11 @@ const QUESTION: &str =
                      M; 0 unless given; may be given once for each letter
   --scene any|N      all scenes, or the one that starts at N; the same as
                      --start S=N; 0 unless given
-  --masks on|off     leave out the pixels that a tile's mask calls invalid;
+";
+
+/// What `count` and `compose` share besides.
+const MASKS: &str = "  --masks on|off     leave out the pixels that a tile's mask calls invalid;
                      off unless asked for
-~
 ";
 
 /// What every command with a file takes.
@@ -172,10 +175,12 @@ Without options that is scene 0, start 0 of all other letters, and masks off; fo
 an area ask with --scene any --masks on.
 
 @
+%
+~
   --jobs N           how many windows are composed at a time, 1 to 1024; as many
                      as there are cores unless given
 
-The window may have any sides here. It is cut into windows of at most 65,536 a
+The window may have any sides here. It is cut into windows of at most 65536 a
 side, so that all jobs together take at most 512 MiB, and their counts are added.
 Those that no selected tile meets have no covered pixel and are not composed.
 Prints covered=, pixels= (of the whole window), windows= (into how many it was
@@ -193,9 +198,11 @@ usage: czi compose FILE [--out plane.raw] [--map map.pbm] [--window L,T,W,H]
            [--release 1.02|1.2] [--background HEX]
            [--composer plain|quick|both] [--force]
 
-Composes a window of the plane; its sides are 1 to 65,536.
+Composes a window of the plane; its sides are 1 to 65536.
 
 @
+%
+~
   --background HEX   the bytes of the background pixel in the order of the file:
                      the low byte of a number first, blue before green before
                      red. 0100 is 1 for gray16. Zeros unless given
@@ -215,9 +222,51 @@ windows of whole rows, so that at most 512 MiB are taken; what goes to standard
 output is held in memory until all of it is there.
 ";
 
+const QUOTE: &str = "\
+usage: czi quote FILE --settings quote.txt [--sheet OUT] [--map map.pbm]
+           [--window L,T,W,H] [--type T] [--start C=1 ..] [--scene any|N]
+           [--release 1.02|1.2] [--force]
+
+Prints the quote sheet of a window, two lines: covered=, how many of its pixels a
+tile covers, and area_nm2=, that count times both pitches, in square nanometres;
+a square millimetre has 1000000000000 of them. Without options that is scene 0
+and start 0 of all other letters; for an area ask with --scene any.
+
+  --settings FILE    a text file of these lines, in this order:
+                       edition=2        1 or 2
+                       pitch_x=0.325    how wide a pixel is, in micrometres
+                       pitch_y=0.325    how high it is
+                       masks=on         on or off
+                     A pitch is one to five digits, or these, a point and one to
+                     three digits more, and comes to 0.001 to 65.535. The line
+                     masks= may lack: that is off in edition 1 and on in 2. No
+                     comma, blank, unit or empty line. A fault is said with its
+                     line and column; a comma is refused as 34, all else as 35.
+                     - is standard input; over 65536 bytes are not read
+  --sheet OUT        the sheet goes into this file, and is printed too
+  --map FILE         the coverage map as a PBM: black where a tile gave the pixel.
+                     With - it goes to standard output, and --sheet names a file
+  --force            replaces files that are there
+@
+~
+
+There is no --masks here: the settings say it. Without --sheet, or with - for it,
+standard output gets the two lines of the sheet and nothing else, and the lines
+that follow go to standard error (with --map - the sheet's lines before them):
+area_mm2= (the sheet's area in square millimetres), pixels= (of the window),
+width_mm= and height_mm= (the window's sides by the pitches: hold them against
+the part that was scanned), edition=, pitch_x_nm= and pitch_y_nm= (as the
+settings were read), note: for what to look at twice (masks= is in no line; the
+release has no masks; two pitches; tiles are left out), and a line with what was
+chosen, as czi count has it. The window's sides are 1 to 65536 pixels, and it is
+composed whole, in as much memory as its pixels take; where that is too much, the
+areas of its parts add up to its own. A sheet that was there stays where the run
+is refused: look at the exit code. docs/QUOTE.md says more.
+";
+
 /// The commands.
-pub const COMMANDS: [&str; 8] = [
-    "judge", "info", "tiles", "count", "compose", "extract", "list", "sample",
+pub const COMMANDS: [&str; 9] = [
+    "judge", "info", "tiles", "count", "compose", "quote", "extract", "list", "sample",
 ];
 
 /// What to do about 17 and 18. The older release is no way round them.
@@ -225,7 +274,7 @@ const REWRITE_MASKS: &str = "whoever wrote the masks writes them again; only a f
     archived under release 1.02 is judged by it, and the masks of any other would be forgotten";
 
 /// What to do about each refusal.
-const ADVICE: [(u32, &str); 24] = [
+const ADVICE: [(u32, &str); 26] = [
     (1, "cut in copying, or no CZI file: copy it again"),
     (
         2,
@@ -264,26 +313,34 @@ const ADVICE: [(u32, &str); 24] = [
     (18, REWRITE_MASKS),
     (
         20,
-        "compose: cut the window, and count is for windows of any size",
+        "compose and quote: cut the window, and counts and areas add up; count is for windows of any size",
     ),
     (21, "name another type, or as many bytes as its pixel has"),
     (22, "a fault of the calling program"),
     (
         23,
-        "name the type of that tile, or select one kind of tiles, mostly by --start C=N",
+        "name the type of that tile, or select one kind of tiles, mostly by --start C=N, or by --window where they lie apart",
     ),
     (24, "czi info and czi tiles say how many there are"),
     (30, "czi info has the same figures"),
+    (
+        34,
+        "of quote: write 1.25, not 1,25, and no comma anywhere else; line and column are said",
+    ),
+    (
+        35,
+        "of quote: mend the settings where line and column are said; czi help quote shows such a file",
+    ),
 ];
 
 /// The text about refusals.
 fn refusals() -> String {
     let mut text = "\
-A refusal is a number, a place, which is an offset in the file, and words. Some
-files are refused whole by design: 4, 7, 10, 11 and 13, and 12 for types that the
-format only plans. \"Copy it again\" means from the medium that it came from, \"save
-it anew\" with the program that wrote it. docs/INTEGRATE.md and docs/RULES.md say
-more.
+A refusal is a number, a place, which is an offset in the file (of 34 in the
+settings), and words. Some files are refused whole by design: 4, 7, 10, 11 and 13,
+and 12 for types that the format only plans. \"Copy it again\" means from the medium
+that it came from, \"save it anew\" with the program that wrote it.
+docs/INTEGRATE.md and docs/RULES.md say more.
 
 "
     .to_string();
@@ -324,12 +381,17 @@ pub fn text(command: Option<&str>) -> Option<String> {
         Some("judge") => JUDGE,
         Some("count") => COUNT,
         Some("compose") => COMPOSE,
+        Some("quote") => QUOTE,
         Some("extract") => EXTRACT,
         Some("sample") => SAMPLE,
         Some("refusals") => return Some(refusals()),
         Some(_) => return None,
     };
-    Some(text.replace("@\n", QUESTION).replace("~\n", RELEASE))
+    let parts = [("@\n", QUESTION), ("%\n", MASKS), ("~\n", RELEASE)];
+    let whole = parts.iter().fold(text.to_string(), |text, (mark, part)| {
+        text.replace(mark, part)
+    });
+    Some(whole)
 }
 
 /// The text for the words behind `help`.

@@ -4,7 +4,7 @@ use crate::failure::Failure;
 use crate::identity::{Identity, State};
 use crate::{memory, streams, system};
 use std::fs::{self, File, Metadata};
-use std::io::Seek;
+use std::io::{Read, Seek};
 use std::ops::Deref;
 use std::path::{Path, PathBuf};
 use std::time::Duration;
@@ -92,6 +92,22 @@ impl Input {
         let answer = work(&lent);
         self.unchanged()?;
         answer
+    }
+
+    /// All of its bytes, in memory. Where there are more than so many they are not
+    /// read on, and it is said what the file has to be.
+    pub fn contents(mut self, most: u64, wanted: &str) -> Result<Vec<u8>, Failure> {
+        let mut bytes = memory::room(most + 1)?;
+        let read = (&mut self.file).take(most + 1).read_to_end(&mut bytes);
+        read.map_err(|error| Failure::of(&self.path, error))?;
+        self.unchanged()?;
+        match bytes.len() as u64 > most {
+            true => {
+                let what = format!("it is over {most} bytes long, and {wanted}");
+                Err(Failure::of(&self.path, what))
+            }
+            false => Ok(bytes),
+        }
     }
 
     fn lend(&mut self) -> Result<Lent, Failure> {

@@ -1,4 +1,4 @@
-//! The command `czi`: judges, lists, counts and composes CZI microscope files.
+//! The command `czi`: judges, lists, counts, composes and quotes CZI microscope files.
 //!
 //! Exit codes: 0 done; 2 refused, with the number, its place and its words in
 //! one line on standard error; 1 for a bad argument, a file that can't
@@ -24,10 +24,12 @@ mod pbm;
 mod plane;
 mod progress;
 mod question;
+mod quote;
 mod records;
 mod refused;
 mod release;
 mod sample;
+mod settings;
 mod staged;
 mod streams;
 mod system;
@@ -95,6 +97,7 @@ fn run_command(name: &str, words: Vec<OsString>) -> Result<Answer, Failure> {
         "tiles" => tiles::run(words),
         "count" => count::run(words),
         "compose" => compose::run(words),
+        "quote" => quote::run(words),
         "extract" => extract::run(words),
         "sample" => sample::run(words),
         _ => Err(Failure::Usage(format!("there is no command {name:?}"))),

@@ -2,7 +2,6 @@
 
 use crate::failure::Failure;
 use crate::identity::Identity;
-use crate::input::Input;
 use crate::streams;
 use std::fs::{self, Metadata, OpenOptions};
 use std::io::ErrorKind;
@@ -24,14 +23,13 @@ pub struct Output {
 }
 
 /// Looks at all of them. A file that is there is replaced only by `force`, and
-/// never one that nobody may write; none may be the input, standard output or
-/// error, or another of them.
-pub fn look(paths: &[&Path], force: bool, input: Option<&Input>) -> Result<Vec<Output>, Failure> {
+/// never one that nobody may write; none may be one that is read, standard output
+/// or error, or another of them.
+pub fn look(paths: &[&Path], force: bool, read: &[Identity]) -> Result<Vec<Output>, Failure> {
     let outputs: Vec<Output> = paths
         .iter()
         .map(|path| Output::look(path, force))
         .collect::<Result<_, _>>()?;
-    let read = input.map(Input::identity).unwrap_or_default();
     let old = |output: &Output| output.old.iter().copied().collect::<Vec<_>>();
     for (k, output) in outputs.iter().enumerate() {
         if output.old.is_some_and(|id| read.contains(&id)) {

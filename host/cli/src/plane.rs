@@ -116,6 +116,30 @@ impl<'a> Plane<'a> {
         }
     }
 
+    /// The window and the type, where a plane needs both.
+    pub fn whole(&self) -> Result<(Window, u32), Failure> {
+        let missing = |what: String| Failure::Other(format!("the file has no {what}"));
+        let pixel_type = self.pixel_type()?;
+        let Some(window) = self.window else {
+            let why = match self.summary.tiles {
+                0 => "it has no tiles".to_string(),
+                1 => "its one tile is a pyramid tile".to_string(),
+                tiles => format!("its {tiles} tiles are pyramid tiles"),
+            };
+            let what = format!("tile that counts ({why}), so it has no box: name a --window");
+            return Err(missing(what));
+        };
+        let no_type = || missing("tiles, so a --type must be given".to_string());
+        Ok((window, pixel_type.ok_or_else(no_type)?))
+    }
+
+    /// How many tiles are left out, pyramid tiles aside, and of how many.
+    pub fn left_out(&self) -> Result<(u64, u64), Failure> {
+        let tiles = czi::tiles(self.scan)?.filter(|tile| !tile.is_pyramid_tile());
+        let all = tiles.count() as u64;
+        Ok((all.saturating_sub(self.chosen.selected), all))
+    }
+
     /// 20 and 21, before memory is taken: they go before 22, which is given where
     /// nothing is lent.
     fn refuse_early(

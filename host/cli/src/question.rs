@@ -1,5 +1,5 @@
-//! The question that `compose` and `count` put: what may be left out is chosen
-//! later, by the file.
+//! The question that `compose`, `count` and `quote` put: what may be left out is
+//! chosen later, by the file.
 
 use crate::arguments::{choose, number, Arguments};
 use crate::failure::Failure;
@@ -21,7 +21,7 @@ pub struct Question {
     pub starts: [i32; 26],
     /// Any scene.
     pub any_scene: bool,
-    /// Masks are on.
+    /// Masks are on; of `quote` the settings say it.
     pub masks: bool,
     /// The background pixel; zeros where it is not given.
     pub background: Option<Vec<u8>>,
@@ -48,7 +48,7 @@ impl Question {
             }
             Some("any") | None => {}
             Some(word) => {
-                let scene = number(word, "--scene")?;
+                let scene = parse_scene(word)?;
                 once(&mut starts[SCENE], "--scene or --start S", scene)?;
             }
         }
@@ -119,6 +119,16 @@ fn parse_window(word: &str) -> Result<Window, Failure> {
         width: number(width, "--window")?,
         height: number(height, "--window")?,
     })
+}
+
+fn parse_scene(word: &str) -> Result<i32, Failure> {
+    let digits = word.trim_start_matches(['+', '-']);
+    match !digits.is_empty() && digits.bytes().all(|byte| byte.is_ascii_digit()) {
+        true => number(word, "--scene"),
+        false => Err(usage(format!(
+            "--scene is any (all scenes) or a number, not {word:?}"
+        ))),
+    }
 }
 
 /// A letter, counted from A, and its start.

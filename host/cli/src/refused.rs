@@ -28,7 +28,7 @@ pub fn explain(scan: Scan, asked: &Asked, failure: Failure) -> Failure {
     let more = match refusal.reason {
         // Where the window is cut, sides of over 65,536 are taken.
         Reason::Window if asked.side == u32::MAX => {
-            let words = "a side of the window is 0, or an edge is past 2,147,483,647";
+            let words = "a side of the window is 0, or an edge is past 2147483647";
             let more = window(asked).map_or(String::new(), |more| format!(" ({more})"));
             return Failure::Worded(refusal, format!("{words}{more}"));
         }
@@ -96,10 +96,10 @@ mod tests {
         };
         let line =
             |asked: &Asked| explain(Scan::new(&[]), asked, Refusal::new(20, 0).into()).to_string();
-        let words = "refused 20 at 0: a side of the window is 0, or an edge is past 2,147,483,647";
+        let words = "refused 20 at 0: a side of the window is 0, or an edge is past 2147483647";
         assert_eq!(line(&asked), format!("{words} (the height is 0)"));
         asked.side = 65_536;
-        assert!(line(&asked).contains("65,536") && line(&asked).ends_with("(the width is 70000)"));
+        assert!(line(&asked).contains("65536") && line(&asked).ends_with("(the width is 70000)"));
     }
 
     fn said(number: u32, window: Window, pixel_type: u32, background: usize) -> String {

@@ -27,7 +27,7 @@ pub fn run(words: Vec<OsString>) -> Result<Answer, Failure> {
         }
         false => vec![&path],
     };
-    let files = look(&files, arguments.flag("--force"), None)?;
+    let files = look(&files, arguments.flag("--force"), &[])?;
     let mut sink = Sink::begin(Some(&path), &mut files.iter(), SAMPLE.len() as u64)?;
     sink.write(SAMPLE)?;
     finish(vec![sink], format!("{} bytes written\n", SAMPLE.len()))

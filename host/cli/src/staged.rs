@@ -215,7 +215,7 @@ mod tests {
             fs::write(folder.join(name), "old").unwrap();
         }
         let (a, b) = (folder.join("a"), folder.join("b"));
-        let outputs = look(&[&a, &b], true, None).unwrap();
+        let outputs = look(&[&a, &b], true, &[]).unwrap();
         let staged = outputs.iter().map(|output| {
             let mut staged = Staged::begin(output).unwrap();
             staged.write(b"new").unwrap();

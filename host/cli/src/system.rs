@@ -314,10 +314,24 @@ struct Memory;
 #[global_allocator]
 static MEMORY: Memory = Memory;
 
+/// Set where the run takes the memory of a whole window.
+static WHOLE: AtomicBool = AtomicBool::new(false);
+
+/// From now on parts of the window are advised where no memory is left.
+pub fn advise_parts() {
+    WHOLE.store(true, SeqCst);
+}
+
 fn there(memory: *mut u8) -> *mut u8 {
-    match memory.is_null() {
-        true => end(b"czi: there is no memory left\n"),
-        false => memory,
+    if !memory.is_null() {
+        return memory;
+    }
+    match WHOLE.load(SeqCst) {
+        true => end(
+            b"czi: there is no memory left; a quote composes its window whole: quote parts of \
+                      it with --window, and add their areas\n",
+        ),
+        false => end(b"czi: there is no memory left\n"),
     }
 }
 

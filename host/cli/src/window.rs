@@ -42,6 +42,11 @@ impl Window {
         }
     }
 
+    /// Has it pixels, and a side that the library does not compose?
+    pub fn is_large(&self) -> bool {
+        self.pixels() != 0 && self.width.max(self.height) > SIDE
+    }
+
     /// How many pixels it has; both sides are under 2^32, so this fits.
     pub fn pixels(&self) -> u64 {
         u64::from(self.width) * u64::from(self.height)

@@ -292,7 +292,7 @@ fn a_file_without_a_box_covers_nothing() {
         assert_eq!(prints(&["count", &file]), wanted(found));
         let typed = ["count", &file, "--type", "Bgr48"];
         assert_eq!(prints(&typed), wanted("bgr48"));
-        fails(&["compose", &file], 1, "no box, so a --window");
+        fails(&["compose", &file], 1, "so it has no box: name a --window");
         for command in ["count", "compose"] {
             for window in [&[][..], &["--window", "0,0,3,3"]] {
                 let typed = [&[command, &file, "--type", "12"], window].concat();

@@ -106,18 +106,18 @@ fn reads_a_pipe(name: &str) {
 #[test]
 fn help_is_there_for_each_command() {
     for command in [
-        "list", "info", "judge", "tiles", "count", "compose", "extract", "sample",
+        "list", "info", "judge", "tiles", "count", "compose", "quote", "extract", "sample",
     ] {
         let (code, out, err) = said(&czi(&[command, "--help"]));
         assert_eq!((code, err.as_str()), (0, ""));
         assert!(out.starts_with(&format!("usage: czi {command}")), "{out}");
-        assert!(!out.contains(['@', '~']) && out.lines().all(|line| line.len() <= 82));
+        assert!(!out.contains(['@', '%', '~']) && out.lines().all(|line| line.len() <= 82));
         assert_eq!(out.contains("--release 1.02|1.2"), command != "sample");
         assert_eq!(said(&czi(&["help", command])), (code, out, err));
     }
     let (code, refusals, _) = said(&czi(&["help", "refusals"]));
     assert!(code == 0 && refusals.lines().all(|line| line.len() <= 82));
-    for number in (1..=24).filter(|number| *number != 19).chain([30]) {
+    for number in (1..=24).filter(|number| *number != 19).chain([30, 34, 35]) {
         assert!(refusals.contains(&format!("\n{number:>2}  ")), "{number}");
     }
     fails(&["help", "paint"], 1, "there is no command \"paint\"");

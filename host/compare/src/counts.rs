@@ -13,12 +13,20 @@ pub struct Compared {
     pub tables: u64,
     /// Questions for what is selected.
     pub chosen: u64,
+    /// Quotes.
+    pub quotes: u64,
 }
 
 impl Compared {
     /// All of them.
-    pub fn counts(&self) -> [u64; 4] {
-        [self.calls, self.questions, self.tables, self.chosen]
+    pub fn counts(&self) -> [u64; 5] {
+        [
+            self.calls,
+            self.questions,
+            self.tables,
+            self.chosen,
+            self.quotes,
+        ]
     }
 
     /// Adds those of another part of the run.
@@ -27,16 +35,17 @@ impl Compared {
         self.questions += other.questions;
         self.tables += other.tables;
         self.chosen += other.chosen;
+        self.quotes += other.quotes;
     }
 }
 
 impl fmt::Display for Compared {
     fn fmt(&self, f: &mut fmt::Formatter<'_>) -> fmt::Result {
-        let [calls, questions, tables, chosen] = self.counts();
+        let [calls, questions, tables, chosen, quotes] = self.counts();
         write!(
             f,
             "{questions} questions to both composers, {chosen} for what is selected, \
-             {tables} tables of all records, {calls} calls of the library in all"
+             {tables} tables of all records, {quotes} quotes, {calls} calls of the library in all"
         )
     }
 }
@@ -72,5 +81,35 @@ impl fmt::Display for Declared {
             f,
             "{all}, of which {declaring} declare a container ({share:.0} %)"
         )
+    }
+}
+
+/// Settings, and those that are sound.
+#[derive(Default)]
+pub struct Sounded {
+    /// All of them.
+    pub all: u64,
+    /// Those that are sound.
+    pub sound: u64,
+}
+
+impl Sounded {
+    /// One more.
+    pub fn note(&mut self, is_sound: bool) {
+        self.all += 1;
+        self.sound += u64::from(is_sound);
+    }
+
+    /// Adds those of another part of the run.
+    pub fn join(&mut self, other: &Sounded) {
+        self.all += other.all;
+        self.sound += other.sound;
+    }
+}
+
+impl fmt::Display for Sounded {
+    fn fmt(&self, f: &mut fmt::Formatter<'_>) -> fmt::Result {
+        let (all, sound) = (self.all, self.sound);
+        write!(f, "{all}, of which {sound} are sound")
     }
 }

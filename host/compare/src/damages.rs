@@ -1,6 +1,7 @@
 //! Damaged files, by clause, two clauses at once, and in any way.
 
 use crate::planes;
+use crate::quotes;
 use crate::read::Read;
 use crate::reader;
 use crate::report::Report;
@@ -46,6 +47,7 @@ pub fn check(sound: &Sound, random: &mut Random, report: &mut Report) {
         let read = Read::new(&bytes, report);
         reader::check(&read, report);
         planes::check_damaged(&read, sound, random, report);
+        quotes::check_damaged(&read, sound, random, report);
     }
 }
 
@@ -69,6 +71,7 @@ fn is_refused(damaged: &Damaged, sound: &Sound, random: &mut Random, report: &mu
     let read = Read::new(&bytes, report);
     reader::check(&read, report);
     planes::check_damaged(&read, sound, random, report);
+    quotes::check_damaged(&read, sound, random, report);
     let wanted = Release::ALL.map(|release| damaged.refusal(release));
     report.compare("foretold", &read.refusals(), &wanted)
 }

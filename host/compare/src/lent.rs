@@ -104,3 +104,113 @@ impl Buffers {
         target.or_else(|| of("map", self.map.difference(&other.map)))
     }
 }
+
+/// The target and the map of a question, and the sheet of a quote.
+#[derive(Clone, Debug, PartialEq, Eq)]
+pub struct Sheeted {
+    /// The target and the map.
+    pub buffers: Buffers,
+    /// The sheet.
+    pub sheet: Lent<u8>,
+}
+
+impl Sheeted {
+    /// All with a pattern.
+    pub fn new(target: usize, map: usize, sheet: usize, salt: u64) -> Sheeted {
+        Sheeted {
+            buffers: Buffers::new(target, map, salt),
+            sheet: Lent::new(sheet, salt >> 16),
+        }
+    }
+
+    /// Makes all as those of the other, of the same shape, are.
+    pub fn copy(&mut self, other: &Sheeted) {
+        self.buffers.copy(&other.buffers);
+        self.sheet.copy(&other.sheet);
+    }
+
+    /// Where they differ first.
+    pub fn difference(&self, other: &Sheeted) -> Option<String> {
+        let sheet = self.sheet.difference(&other.sheet);
+        let of_sheet = || sheet.map(|at| format!("sheet differs at {at}"));
+        self.buffers.difference(&other.buffers).or_else(of_sheet)
+    }
+}
+
+/// What stands before settings and behind them, and would change what they say.
+const BEFORE: [&[u8]; 4] = [b",", b"\n", b"edition=1\n", b"\0"];
+const BEHIND: [&[u8]; 8] = [
+    b"\n",
+    b"\n",
+    b"masks=on\n",
+    b"masks=off\n",
+    b",",
+    b"0\n",
+    b".5\n",
+    b"=1\n",
+];
+
+/// Bytes that are lent to be read, with others around them that nobody lent.
+pub struct Enclosed {
+    all: Vec<u8>,
+    first: usize,
+    length: usize,
+    /// As they were.
+    copy: Vec<u8>,
+}
+
+impl Enclosed {
+    /// Settings among what would change them.
+    pub fn new(settings: &[u8], salt: u64) -> Enclosed {
+        let before = BEFORE[salt as usize % BEFORE.len()].repeat(4);
+        let behind = BEHIND[(salt >> 8) as usize % BEHIND.len()].repeat(4);
+        let all = [&before, settings, &behind].concat();
+        Enclosed {
+            copy: all.clone(),
+            all,
+            first: before.len(),
+            length: settings.len(),
+        }
+    }
+
+    /// What is lent.
+    pub fn part(&self) -> &[u8] {
+        &self.all[self.first..self.first + self.length]
+    }
+
+    /// Is everything as it was?
+    pub fn is_as_lent(&self) -> bool {
+        self.all == self.copy
+    }
+}
+
+#[cfg(test)]
+mod tests {
+    use super::*;
+
+    #[test]
+    fn settings_are_lent_among_bytes_that_are_not() {
+        for salt in 0..4096 {
+            let mut enclosed = Enclosed::new(b"edition=1", salt);
+            assert_eq!(enclosed.part(), b"edition=1");
+            assert!(enclosed.is_as_lent());
+            let last = enclosed.first + enclosed.length;
+            assert!(enclosed.first > 0 && last < enclosed.all.len());
+            let changed = [0, enclosed.first, last - 1, last][salt as usize % 4];
+            enclosed.all[changed] ^= 1;
+            assert!(!enclosed.is_as_lent());
+        }
+    }
+
+    #[test]
+    fn a_difference_of_the_sheet_is_said() {
+        let lent = Sheeted::new(3, 1, 49, 7);
+        let mut other = lent.clone();
+        assert_eq!(lent.difference(&other), None);
+        other.sheet.lend()[48] ^= 1;
+        let said = lent.difference(&other);
+        assert_eq!(said.as_deref(), Some("sheet differs at 48"));
+        other.copy(&lent);
+        assert_eq!(lent, other);
+    }
+}

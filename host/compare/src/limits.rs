@@ -1,6 +1,7 @@
 //! Files at the limits, and inputs too long to list or to judge.
 
 use crate::planes;
+use crate::quotes;
 use crate::read::Read;
 use crate::reader;
 use crate::report::Report;
@@ -22,6 +23,7 @@ pub fn check(sound: &Sound, random: &mut Random, report: &mut Report) {
             if report.compare(limit.name, &read.refusals(), &[None; 2]) {
                 report.limits.add(limit.name);
                 planes::check_damaged(&read, sound, random, report);
+                quotes::check_damaged(&read, sound, random, report);
                 report.outcomes.add("a question to a file at a limit");
             }
         }

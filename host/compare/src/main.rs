@@ -1,6 +1,6 @@
 //! The proved library compared with the reference, which was written from the
 //! paper and not from the definitions: generated files, damaged ones, metadata
-//! of every kind, and questions to them, all under releases 1.2 and 1.02. Every
+//! of every kind, questions to them, and quotes, all under releases 1.2 and 1.02. Every
 //! number of every answer and every lent byte is compared, of refused calls too; and
 //! what the releases have in common is held of the library's own answers. Prints how
 //! often each clause was reached; one reached not once fails the run, as any
@@ -19,9 +19,12 @@ mod limits;
 mod metadata;
 mod options;
 mod planes;
+mod quoted;
+mod quotes;
 mod read;
 mod reader;
 mod report;
+mod settings;
 mod tables;
 mod types;
 mod zeros;
@@ -61,11 +64,16 @@ fn main() -> ExitCode {
 const SEEDS: u64 = 250;
 
 /// What is compared once in a run, each a part of its own.
-const ONCE: [fn(&mut Report); 4] = [
+const ONCE: [fn(&mut Report); 9] = [
     limits::check_longest,
     metadata::check_long,
     metadata::check_short,
     types::check,
+    settings::check_changed,
+    settings::check_pitches,
+    settings::check_nanometres,
+    settings::check_long,
+    settings::check_large,
 ];
 
 /// Compares on the files of all seeds, and what is compared once.
@@ -99,6 +107,7 @@ fn compare(seed: u64, options: &Options, report: &mut Report) {
     report.compare("a sound file", &read.refusals(), &[None; 2]);
     reader::check_requests(&read, &sound, random, report);
     planes::check(&read, &sound, random, options.questions, report);
+    quotes::check(&read, &sound, random, report);
     damages::check(&sound, random, report);
     metadata::check(random, report);
     if seed.is_multiple_of(100) {

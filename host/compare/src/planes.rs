@@ -32,10 +32,11 @@ impl Both {
     }
 }
 
-type Call = fn(&[u8], u32, &Plain, &mut [u8], &mut [u8]) -> Answer<Counted>;
+/// A composer's call.
+pub type Call = fn(&[u8], u32, &Plain, &mut [u8], &mut [u8]) -> Answer<Counted>;
 
 /// The plain composer and the quick one.
-const COMPOSERS: [(&str, Call); 2] = [
+pub const COMPOSERS: [(&str, Call); 2] = [
     ("plain", calls::compose_plain),
     ("quick", calls::compose_quick),
 ];

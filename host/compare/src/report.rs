@@ -1,10 +1,14 @@
 //! What a run found.
 
 use crate::case::Case;
-use crate::counts::{Compared, Declared};
+use crate::counts::{Compared, Declared, Sounded};
+use crate::quoted::{ORDERS, QUOTED, SHEETS, SHEET_CLAUSE};
 use generate::ask::{ask_clauses, ask_freedoms, REQUEST_CLAUSES};
 use generate::damage::{clauses, EXTERNAL_CLAUSE};
-use generate::{freedoms, metadata_names, Tally, LIMITS, LISTING_CLAUSES, VERDICTS};
+use generate::{
+    freedoms, metadata_names, settings_clauses, settings_freedoms, Tally, LIMITS, LISTING_CLAUSES,
+    VERDICTS,
+};
 use reference::Release;
 use std::fmt;
 
@@ -110,6 +114,10 @@ pub struct Report {
     pub short: Declared,
     /// Of the drawn ones and the foretold, those with a mask.
     pub masked: u64,
+    /// Settings with a byte or a line changed.
+    pub changed: Sounded,
+    /// Settings with every short pitch.
+    pub pitches: Sounded,
     /// Freedoms that sound files take.
     pub freedoms: Tally,
     /// What metadata hold, or have wrong.
@@ -130,6 +138,14 @@ pub struct Report {
     pub lent: Tally,
     /// What is selected, and what meets the window.
     pub choices: Tally,
+    /// Freedoms that settings take.
+    pub settings_freedoms: Tally,
+    /// How long sheets are.
+    pub sheets: Tally,
+    /// What came of quotes.
+    pub quoted: Tally,
+    /// What goes before what.
+    pub orders: Tally,
     /// Clauses of the refusal table.
     pub clauses: Tally,
     differences: Vec<String>,
@@ -150,7 +166,9 @@ impl Report {
             .chain(clauses().into_iter().map(|c| c.name))
             .chain(ask_clauses().iter().map(|c| c.name))
             .chain(REQUEST_CLAUSES.iter().map(|c| c.name))
-            .chain(LISTING_CLAUSES.iter().map(|c| c.name));
+            .chain(LISTING_CLAUSES.iter().map(|c| c.name))
+            .chain([SHEET_CLAUSE])
+            .chain(settings_clauses());
         Report {
             seed: 0,
             asked: 0,
@@ -165,6 +183,8 @@ impl Report {
             foretold: Declared::default(),
             short: Declared::default(),
             masked: 0,
+            changed: Sounded::default(),
+            pitches: Sounded::default(),
             freedoms: Tally::new("Files that take a freedom", freedoms()),
             metadata_names: Tally::new("Metadata by what they hold", metadata_names()),
             limits: Tally::new("Files at a limit", LIMITS.iter().map(|l| l.name)),
@@ -175,6 +195,10 @@ impl Report {
             both: Tally::new("Questions by what came of them under both releases", BOTH),
             lent: Tally::new("Arrays and marks by how they are lent", LENT),
             choices: Tally::new("Questions by what is chosen", CHOICES),
+            settings_freedoms: Tally::new("Settings that take a freedom", settings_freedoms()),
+            sheets: Tally::new("Sheets by how long they are", SHEETS),
+            quoted: Tally::new("Quotes by what came of them", QUOTED),
+            orders: Tally::new("Quotes by what goes first", ORDERS),
             clauses: Tally::new("Refusals by clause", all),
             differences: Vec::new(),
             untold: 0,
@@ -199,6 +223,8 @@ impl Report {
         self.foretold.join(&other.foretold);
         self.short.join(&other.short);
         self.masked += other.masked;
+        self.changed.join(&other.changed);
+        self.pitches.join(&other.pitches);
         for (tally, more) in self.tallies_mut().into_iter().zip(other.tallies()) {
             tally.join(more);
         }
@@ -321,7 +347,7 @@ impl Report {
         }
     }
 
-    fn tallies(&self) -> [&Tally; 11] {
+    fn tallies(&self) -> [&Tally; 15] {
         [
             &self.freedoms,
             &self.metadata_names,
@@ -333,11 +359,15 @@ impl Report {
             &self.both,
             &self.lent,
             &self.choices,
+            &self.settings_freedoms,
+            &self.sheets,
+            &self.quoted,
+            &self.orders,
             &self.clauses,
         ]
     }
 
-    fn tallies_mut(&mut self) -> [&mut Tally; 11] {
+    fn tallies_mut(&mut self) -> [&mut Tally; 15] {
         [
             &mut self.freedoms,
             &mut self.metadata_names,
@@ -349,6 +379,10 @@ impl Report {
             &mut self.both,
             &mut self.lent,
             &mut self.choices,
+            &mut self.settings_freedoms,
+            &mut self.sheets,
+            &mut self.quoted,
+            &mut self.orders,
             &mut self.clauses,
         ]
     }
@@ -407,6 +441,8 @@ impl fmt::Display for Report {
             self.masked
         )?;
         writeln!(f, "the section with every short string: {}", self.short)?;
+        writeln!(f, "settings with a byte or line changed: {}", self.changed)?;
+        writeln!(f, "settings with every short pitch: {}", self.pitches)?;
         if !self.enough_declared() {
             writeln!(
                 f,

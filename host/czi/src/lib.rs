@@ -1,12 +1,12 @@
 //! The proved CZI library for Rust: judges a file, hands out its parts and
-//! records, lists it, and composes planes of it.
+//! records, lists it, composes planes of it, and writes quote sheets.
 //!
 //! A file is lent as its bytes. Any bytes and any number get an answer; nothing
 //! has to be checked before a call, and no call changes a byte of the file or
 //! keeps anything. Each question judges the whole file first: what [`judge`]
 //! refuses, all of them refuse alike (but that [`list`] looks at the length
-//! before); [`tiles`] and [`all_records`] give every record for one judgement or
-//! two. A [`Refusal`] has a number of the table in docs/RULES.md and a place.
+//! before, and [`quote`] at its settings); [`tiles`] and [`all_records`] give every
+//! record for one judgement or two. A [`Refusal`] has a number of the table in docs/RULES.md and a place.
 //! A file is judged by release 1.2 of the format, or by the one that a [`Scan`] of
 //! it says.
 //!
@@ -39,6 +39,7 @@ mod mapping;
 mod pixel;
 mod plane;
 mod question;
+mod quote;
 mod reader;
 mod records;
 mod refusal;
@@ -59,6 +60,7 @@ pub use mapping::{map, map_file, read, Mapping};
 pub use pixel::PixelType;
 pub use plane::{compose, NoPlane, Plane};
 pub use question::{Masks, Question, Scene};
+pub use quote::{quote, Quote};
 pub use reader::{
     attachment_data, common_attachment, common_xml, dimension, judge, list, summary, tile,
     tile_attachment, tile_metadata, tile_pixels,

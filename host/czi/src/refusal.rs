@@ -44,13 +44,13 @@ reasons! {
     Length 1 "length 0, not a multiple of 32, or above 2^40"
     Name 2 "unknown name"
     SegmentSizes 3 "AllocatedSize negative or not a multiple of 32; UsedSize negative or larger; end past the file"
-    SegmentCount 4 "more than 8,192 segments"
+    SegmentCount 4 "more than 8192 segments"
     FileSegment 5 "the first segment is not the file segment or is under 80 bytes long, or a later one is a file segment"
     Major 6 "Major not 1"
     FilePart 7 "a FilePart not 0"
     UpdatePending 8 "UpdatePending not 0"
     Position 9 "a directory or the metadata is said to be where no such segment begins"
-    Directory 10 "a directory is too short for its entries, or has a negative number of them or over 4,096; or the metadata segment's sizes are negative or too large for it"
+    Directory 10 "a directory is too short for its entries, or has a negative number of them or over 4096; or the metadata segment's sizes are negative or too large for it"
     Entry 11 "entry not well formed"
     PixelType 12 "pixel type not listed"
     Compression 13 "compression not 0"
@@ -59,12 +59,14 @@ reasons! {
     Sizes 16 "a tile's or an attachment's sizes are negative or too large for it, or a tile has too few or too many bytes of pixels"
     Chunk 17 "chunk not as the rules say"
     Mask 18 "mask not as the rules say"
-    Window 20 "window side not 1 to 65,536, or right or bottom edge above 2,147,483,647"
+    Window 20 "window side not 1 to 65536, or right or bottom edge above 2147483647"
     AskedType 21 "asked type not listed, or background not one pixel long"
-    Lent 22 "target, map or array too short"
+    Lent 22 "target, map, sheet or array too short"
     AnotherType 23 "a selected tile that meets the window has another type"
     NoEntry 24 "no entry of that number, counted from 0"
-    TooLong 30 "listing only: input over 65,536 bytes"
+    TooLong 30 "listing only: input over 65536 bytes"
+    Comma 34 "a comma in the settings; the place is its offset in them"
+    Settings 35 "settings not as the rules say, or a pitch not 0.001 to 65.535 micrometres"
 }
 
 /// Why something was refused, and where.
@@ -73,6 +75,7 @@ pub struct Refusal {
     /// The row of the table.
     pub reason: Reason,
     /// A byte offset in the file; for a segment or an entry that of its first byte.
+    /// Of a comma (34) it is one in the settings.
     pub place: u64,
 }
 
@@ -106,8 +109,8 @@ mod tests {
         }
         let other = |n: &u32| matches!(Reason::of_number(*n), Reason::Other(_));
         assert_eq!(
-            (1..=30).filter(other).collect::<Vec<_>>(),
-            [19, 25, 26, 27, 28, 29]
+            (1..=35).filter(other).collect::<Vec<_>>(),
+            [19, 25, 26, 27, 28, 29, 31, 32, 33]
         );
     }
 }

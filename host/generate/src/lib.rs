@@ -3,8 +3,9 @@
 //! [`sound`] gives files that a reader must accept, with every freedom that
 //! the rules of papers 01 and 02 leave; [`damage`] changes one field of such a file so
 //! that a given clause of the refusal table is reached; [`ask`] gives
-//! questions, answered and refused ones. Each says by name what it reached,
-//! and a [`Tally`] counts the names.
+//! questions, answered and refused ones; [`Settings`] and [`FaultySettings`] are
+//! those of a quote. Each says by name what it reached, and a [`Tally`] counts the
+//! names.
 
 #![forbid(unsafe_code)]
 
@@ -20,6 +21,7 @@ mod markup;
 mod one_tile;
 mod random;
 mod segment;
+mod settings;
 mod sound;
 mod tally;
 mod tile;
@@ -33,6 +35,9 @@ pub use markup::{draw_tokens, metadata_names, Metadata};
 pub use one_tile::OneTile;
 pub use random::Random;
 pub use segment::{SegmentPlace, HEADER};
+pub use settings::{
+    scramble_settings, settings_clauses, settings_freedoms, FaultySettings, Pitch, Settings,
+};
 pub use sound::{AttachmentPlace, EntryPlace, MetadataPlace, Sound};
 pub use tally::Tally;
 pub use tile::{Attached, Chunk, Dimension, MaskShape, Tile};

@@ -29,41 +29,20 @@ impl OneTile {
 
     /// The file up to the metadata.
     pub fn new() -> OneTile {
-        let mut file = vec![0; 96];
-        file[0] = 1;
-        file[52..60].copy_from_slice(&(DIRECTORY as i64).to_le_bytes());
-        let mut entry = b"DV".to_vec();
-        entry.extend(0i32.to_le_bytes());
-        entry.extend((SUB_BLOCK as i64).to_le_bytes());
-        entry.extend([0; 14]);
-        entry.extend(2i32.to_le_bytes());
-        for (letter, size) in [(b'X', WIDTH), (b'Y', HEIGHT)] {
-            entry.extend([letter, 0, 0, 0, 0, 0, 0, 0]);
-            entry.extend((size as i32).to_le_bytes());
-            entry.extend([0; 8]);
+        OneTile {
+            bytes: head((WIDTH, HEIGHT)),
         }
-        let mut directory = 1i32.to_le_bytes().to_vec();
-        directory.resize(128, 0);
-        directory.extend(&entry);
-        let mut sub_block = vec![0; 8];
-        sub_block.extend((PIXELS.len() as i64).to_le_bytes());
-        sub_block.extend(&entry);
-        sub_block.resize(256, 0);
-        let mut bytes = Vec::new();
-        for (kind, content) in [
-            (Kind::File, file),
-            (Kind::Directory, directory),
-            (Kind::SubBlock, sub_block),
-        ] {
-            let allocated = content.len().next_multiple_of(32);
-            bytes.extend(kind.name());
-            bytes.extend((allocated as i64).to_le_bytes());
-            bytes.extend((content.len() as i64).to_le_bytes());
-            bytes.extend(&content);
-            bytes.resize(bytes.len() + allocated - content.len(), 0);
-        }
-        assert_eq!(bytes.len(), METADATA);
-        OneTile { bytes }
+    }
+
+    /// A file of one tile of these sides, each pixel of it a zero byte, and no metadata.
+    pub fn zeros(width: usize, height: usize) -> Vec<u8> {
+        let mut bytes = head((width, height));
+        let held = 256 + width * height;
+        let allocated = held.next_multiple_of(32);
+        bytes[SUB_BLOCK + 16..][..8].copy_from_slice(&(allocated as i64).to_le_bytes());
+        bytes[SUB_BLOCK + 24..][..8].copy_from_slice(&(held as i64).to_le_bytes());
+        bytes.resize(METADATA + allocated - 256, 0);
+        bytes
     }
 
     /// The file with this metadata and this attachment.
@@ -100,6 +79,45 @@ impl OneTile {
     }
 }
 
+/// The file up to the metadata, its tile of these sides.
+fn head((width, height): (usize, usize)) -> Vec<u8> {
+    let mut file = vec![0; 96];
+    file[0] = 1;
+    file[52..60].copy_from_slice(&(DIRECTORY as i64).to_le_bytes());
+    let mut entry = b"DV".to_vec();
+    entry.extend(0i32.to_le_bytes());
+    entry.extend((SUB_BLOCK as i64).to_le_bytes());
+    entry.extend([0; 14]);
+    entry.extend(2i32.to_le_bytes());
+    for (letter, size) in [(b'X', width), (b'Y', height)] {
+        entry.extend([letter, 0, 0, 0, 0, 0, 0, 0]);
+        entry.extend((size as i32).to_le_bytes());
+        entry.extend([0; 8]);
+    }
+    let mut directory = 1i32.to_le_bytes().to_vec();
+    directory.resize(128, 0);
+    directory.extend(&entry);
+    let mut sub_block = vec![0; 8];
+    sub_block.extend(((width * height) as i64).to_le_bytes());
+    sub_block.extend(&entry);
+    sub_block.resize(256, 0);
+    let mut bytes = Vec::new();
+    for (kind, content) in [
+        (Kind::File, file),
+        (Kind::Directory, directory),
+        (Kind::SubBlock, sub_block),
+    ] {
+        let allocated = content.len().next_multiple_of(32);
+        bytes.extend(kind.name());
+        bytes.extend((allocated as i64).to_le_bytes());
+        bytes.extend((content.len() as i64).to_le_bytes());
+        bytes.extend(&content);
+        bytes.resize(bytes.len() + allocated - content.len(), 0);
+    }
+    assert_eq!(bytes.len(), METADATA);
+    bytes
+}
+
 impl Default for OneTile {
     fn default() -> OneTile {
         OneTile::new()
@@ -127,5 +145,14 @@ mod tests {
             assert_eq!(tile.attachment.start, OneTile::attachment_at(metadata));
             assert_eq!(tile.mask.is_some(), masked);
         }
+    }
+
+    #[test]
+    fn a_tile_of_any_sides() {
+        let bytes = OneTile::zeros(300, 70);
+        let judged = judge(&bytes, Release::V1_2).expect("an accepted file");
+        let tile = judged.tile(0).expect("its tile");
+        assert_eq!((tile.x.size, tile.y.size), (300, 70));
+        assert_eq!(tile.pixels.length, 21_000);
     }
 }

@@ -12,8 +12,9 @@ VERSION = 2
 RELEASE_1_2 = 0
 RELEASE_1_02 = 1
 
-# The lengths of the arrays that the library writes.
+# The lengths of the arrays that the library writes; the least one of a sheet.
 TEXT = 192
+SHEET_MIN = 49
 TILE_NUMBERS = 22
 TILE_STARTS = 3
 DIMENSION_NUMBERS = 5
@@ -33,6 +34,8 @@ _PART = [_U64, _U64, _U64]
 _TABLE = [*_FILE, _U64, c_size_t, _I32, c_size_t, _U64, _U64]
 _COMPOSER = [
     *_FILE, *_LENT, c_uint32, c_uint32, *_LENT, c_int32, c_int32, c_uint32, c_uint32, c_uint32, *_LENT, *_LENT, *_PART]
+_QUOTE = [
+    *_FILE, *_LENT, c_uint32, c_uint32, *_LENT, c_int32, c_int32, c_uint32, c_uint32, *4 * _LENT, *_PART]
 
 # What each function returns and takes.
 SIGNATURES = {
@@ -54,6 +57,7 @@ SIGNATURES = {
     "czi_list": (c_uint64, [*_FILE, c_void_p]),
     "czi_compose_plain": (c_uint32, _COMPOSER),
     "czi_compose_quick": (c_uint32, _COMPOSER),
+    "czi_quote": (c_uint32, _QUOTE),
     "czi_chosen": (c_uint32, [*_FILE, *_LENT, c_uint32, c_int32, c_int32, c_uint32, c_uint32, *_LENT, *_PART]),
 }
 

@@ -57,7 +57,7 @@ def count(file, window=None, pixel_type=None, *, starts=None, scene=0, masks=Fal
         except Refused as refused:
             if refused.number != _WINDOW:
                 raise
-            more = "count takes any window but one with a side of 0 or an edge past 2,147,483,647"
+            more = "count takes any window but one with a side of 0 or an edge past 2147483647"
             raise Refused(_WINDOW, refused.place, more) from None
     met.refuse_another(pixel_type, given)
     cut = Cut(*window, pixel_bytes(pixel_type), memory)

@@ -1,13 +1,13 @@
 """Composing a plane, and which tiles a question selects for it."""
 
 from ctypes import byref, c_int32, c_uint64
-from dataclasses import dataclass
+from dataclasses import dataclass, field
 
 from ._lending import apart, fitting, lent
 from ._library import MOST_TILES, library
 from .pixel import PixelType, pixel_bytes
 from .reader import ask, summary, tiles
-from .records import Chosen, Mark
+from .records import Box, Chosen, Mark
 from .refusal import Refused
 
 _COMPOSERS = {"plain": library.czi_compose_plain, "quick": library.czi_compose_quick}
@@ -25,8 +25,8 @@ class Plane:
 
     window: tuple       # left, top, width, height
     pixel_type: int
-    target: object      # width * height pixels row by row, unpadded
-    map: object         # one bit a pixel in the same order, high bit first: 1 where a tile gave the pixel
+    target: object = field(repr=False)  # width * height pixels row by row, unpadded
+    map: object = field(repr=False)     # one bit a pixel in the same order, high bit first: 1 where a tile gave the pixel
     covered: int        # how many pixels a tile gave: the map's ones
     stored: int         # how many pixels the composer stored
     release: str        # by which the file was judged: "1.2" or "1.02"
@@ -36,7 +36,8 @@ def compose(file, window=None, pixel_type=None, *, starts=None, scene=0, masks=F
             map=None, composer="quick", release="1.2"):
     """Composes a window of the plane: each pixel from the topmost selected tile that gives it, else the background.
 
-    window       left, top, width, height; the sides are 1 to 65,536. The summary's box unless given.
+    window       left, top, width, height; the sides are 1 to 65,536. The summary's box unless given. A Box itself, which has
+                 right and bottom, is not taken: its property window is.
     pixel_type   the target's; unless given that of the selected tiles that meet the window, where they have one, or of the
                  first tile where none does
     starts       where the tiles to select start, by letter: {"C": 1}. 0 for the letters that are not given.
@@ -54,25 +55,11 @@ def compose(file, window=None, pixel_type=None, *, starts=None, scene=0, masks=F
     masks_number(masks)
     if composer not in _COMPOSERS:
         raise ValueError(f"composer is {composer!r}, which is neither 'plain' nor 'quick'")
-    window = tuple(window_of(file, release) if window is None else window)
-    met = Met(file, window, starts, scene, release)
-    given, pixel_type = pixel_type is not None, met.pixel_type if pixel_type is None else pixel_type
-    if pixel_type is None:
-        raise ValueError("the file has no tiles, and so no pixel type: pixel_type has to be given")
-    if background is None:
-        background = bytes(pixel_bytes(pixel_type))
-    question = _question(window, pixel_type, starts, scene, masks)
-    call = _COMPOSERS[composer]
-    if target is None or map is None:
-        _refuse_early(call, file, release, question, background)
-        if target is None and map is None:
-            # Nothing is lent that could be too short, which would be said before.
-            met.refuse_another(pixel_type, given)
-        pixels = window[2] * window[3]
-        target = bytearray(pixels * len(memoryview(background).cast("B"))) if target is None else target
-        map = bytearray((pixels + 7) // 8) if map is None else map
-    covered, stored = _compose(call, file, release, question, background, target, map)
-    return Plane(window, pixel_type, target, map, covered, stored, release)
+    asked = Asked(file, window, pixel_type, starts, scene, background, release)
+    target, map = asked.buffers(target, map)
+    question = _question(asked.window, asked.pixel_type, starts, scene, masks)
+    covered, stored = _compose(_COMPOSERS[composer], file, release, question, asked.background, target, map)
+    return Plane(asked.window, asked.pixel_type, target, map, covered, stored, release)
 
 
 def chosen(file, window=None, *, starts=None, scene=0, release="1.2"):
@@ -81,11 +68,11 @@ def chosen(file, window=None, *, starts=None, scene=0, release="1.2"):
     All is as for compose, but that any window may be asked about, with sides of over 65,536 too; one with a side of 0
     shares a pixel with no tile. Masks do not enter.
     """
-    corner, sides = _window(window_of(file, release) if window is None else window)
+    corner, sides = window_numbers(window_of(file, release) if window is None else window)
     marks = bytearray([_UNMARKED]) * MOST_TILES
     selected, meeting = c_uint64(), c_uint64()
     with lent(marks, True) as bytes_:
-        asked = (*_starts(starts, scene), int(scene == "any"), *corner, *sides, *bytes_)
+        asked = (*starts_of(starts, scene), int(scene == "any"), *corner, *sides, *bytes_)
         ask(library.czi_chosen, file, release, asked, (byref(selected), byref(meeting)))
     # Those past the tiles stay as they were.
     return Chosen(selected.value, meeting.value, [Mark(mark) for mark in marks if mark != _UNMARKED])
@@ -124,6 +111,33 @@ class Met:
                               f"{has}, asked for is {named}" if given else f"tile {self.tiles[0].entry} has {named}, {has}")
 
 
+class Asked:
+    """What is asked of a window: what is not given is the file's. And the buffers for it."""
+
+    def __init__(self, file, window, pixel_type, starts, scene, background, release):
+        self.window = tuple(window_of(file, release) if window is None else no_box(window))
+        self._met = Met(file, self.window, starts, scene, release)
+        self.chosen = self._met.chosen
+        self._given = pixel_type is not None
+        self.pixel_type = pixel_type if self._given else self._met.pixel_type
+        if self.pixel_type is None:
+            raise ValueError("the file has no tiles, and so no pixel type: pixel_type has to be given")
+        self.background = bytes(pixel_bytes(self.pixel_type)) if background is None else background
+        self._early = file, release, _question(self.window, self.pixel_type, starts, scene, False), self.background
+
+    def buffers(self, target, map):
+        """Those that are given, or bytearrays; what is refused whatever is lent is refused before memory is taken."""
+        if target is None or map is None:
+            _refuse_early(_COMPOSERS["quick"], *self._early)
+            if target is None and map is None:
+                # Nothing is lent that could be too short, which would be said before.
+                self._met.refuse_another(self.pixel_type, self._given)
+            pixels = self.window[2] * self.window[3]
+            target = bytearray(pixels * len(memoryview(self.background).cast("B"))) if target is None else target
+            map = bytearray((pixels + 7) // 8) if map is None else map
+        return target, map
+
+
 def masks_number(masks):
     """Masks as the library takes them. What is true in some other way could be meant either way: 'off', 2."""
     if not isinstance(masks, bool):
@@ -133,25 +147,35 @@ def masks_number(masks):
 
 def _question(window, pixel_type, starts, scene, masks):
     """The starts, and the numbers behind them up to the background and from there on, as the library takes them."""
-    corner, sides = _window(window)
+    corner, sides = window_numbers(window)
     before = (int(scene == "any"), fitting(pixel_type, 32, "pixel_type"))
-    return _starts(starts, scene), before, (*corner, *sides, masks_number(masks))
+    return starts_of(starts, scene), before, (*corner, *sides, masks_number(masks))
 
 
-def _window(window):
-    """The corner and the sides."""
-    left, top, width, height = window
+def no_box(window):
+    """The window, if it is no box, whose last two numbers are edges and not sides."""
+    if isinstance(window, Box):
+        raise TypeError("window is a Box, which has left, top, right and bottom; its property window has left, top, width and "
+                        "height")
+    return window
+
+
+def window_numbers(window):
+    """The corner and the sides, as the library takes them."""
+    left, top, width, height = no_box(window)
     return ((fitting(left, 32, "left", signed=True), fitting(top, 32, "top", signed=True)),
             (fitting(width, 32, "width"), fitting(height, 32, "height")))
 
 
-def _starts(starts, scene):
+def starts_of(starts, scene):
     """The starts of A to Z, and how many they are."""
     letters = (c_int32 * 26)()
     for letter, start in (starts or {}).items():
         if letter not in _SELECTING:
             raise ValueError(f"{letter!r} has no start to ask for: A to Z have, but X, Y, M, and S, which is scene")
         letters[ord(letter) - ord("A")] = fitting(start, 32, f"the start of {letter}", signed=True)
+    if isinstance(scene, bool):
+        raise TypeError(f"scene is {scene!r}, and has to be a number or 'any'")
     if isinstance(scene, str) and scene != "any":
         raise ValueError(f"scene is {scene!r}, which is neither a number nor 'any'")
     if scene != "any":

@@ -10,11 +10,14 @@ from stored import SAMPLES, sample
 from test_metadata import METADATA_AT, SECTION, one_tile
 from test_samples import refusal_of
 
-# What takes a file, and a file and the number of an entry.
+# What takes a file, a file and the number of an entry, and a file and settings.
 OF_FILES = [czi.judge, czi.listing, czi.summary, czi.tiles, czi.all_records, czi.attachments, czi.common_xml,
             czi.common_attachment, czi.chosen, czi.compose, czi.count]
 OF_ENTRIES = [czi.tile, czi.dimensions, czi.tile_pixels, czi.tile_metadata, czi.tile_attachment, czi.attachment,
               czi.attachment_data]
+OF_SETTINGS = [czi.quote]
+EVERY = OF_FILES + OF_ENTRIES + OF_SETTINGS
+SETTINGS = "edition=2\npitch_x=0.325\npitch_y=0.325\n"
 
 
 def calls(name):
@@ -24,14 +27,16 @@ def calls(name):
         yield call, lambda call=call, **named: call(file, **named)
     for call in OF_ENTRIES:
         yield call, lambda call=call, **named: call(file, 0, **named)
+    for call in OF_SETTINGS:
+        yield call, lambda call=call, **named: call(file, SETTINGS, **named)
 
 
 class Releases(unittest.TestCase):
     def test_every_function_with_a_file_takes_a_release(self):
         functions = [getattr(czi, name) for name in czi.__all__ if inspect.isfunction(getattr(czi, name))]
         taking = {call for call in functions if "file" in inspect.signature(call).parameters}
-        self.assertEqual(taking, set(OF_FILES + OF_ENTRIES))
-        for call in OF_FILES + OF_ENTRIES:
+        self.assertEqual(taking, set(EVERY))
+        for call in EVERY:
             said = inspect.signature(call).parameters["release"]
             self.assertEqual((said.default, said.kind), ("1.2", said.KEYWORD_ONLY), call)
 

@@ -4,6 +4,7 @@ use crate::bytes::part;
 use crate::judge::File;
 use crate::pixel::bytes_a_pixel;
 use crate::question::Question;
+use crate::quote::SHEET;
 use crate::refusal::{refuse_if, Refusal};
 use crate::tile::Tile;
 
@@ -28,7 +29,18 @@ impl File<'_> {
         target: &mut [u8],
         map: &mut [u8],
     ) -> Result<Counts, Refusal> {
-        let pixel_length = self.ask(question, target.len(), map.len())?;
+        let pixel_length = self.ask(question, target.len(), map.len(), None)?;
+        Ok(self.paint(question, pixel_length, target, map))
+    }
+
+    /// Composes the plane of a question that is not refused.
+    pub(crate) fn paint(
+        &self,
+        question: &Question,
+        pixel_length: usize,
+        target: &mut [u8],
+        map: &mut [u8],
+    ) -> Counts {
         let selected: Vec<&Tile> = self.tiles.iter().filter(|t| question.selects(t)).collect();
         let mut counts = Counts {
             covered: 0,
@@ -59,11 +71,17 @@ impl File<'_> {
             }
         }
         counts.stored_quick = counts.covered;
-        Ok(counts)
+        counts
     }
 
-    /// 20, 21, 22, 23; answers the length of a pixel.
-    fn ask(&self, q: &Question, target: usize, map: usize) -> Result<usize, Refusal> {
+    /// 20, 21, 22, 23; answers the length of a pixel. A quote lends a sheet too.
+    pub(crate) fn ask(
+        &self,
+        q: &Question,
+        target: usize,
+        map: usize,
+        sheet: Option<usize>,
+    ) -> Result<usize, Refusal> {
         // 20: window side not 1 to 65,536, or right or bottom edge above 2,147,483,647.
         let is_side = |side| (1..=65_536).contains(&side);
         refuse_if(!is_side(q.width) || !is_side(q.height), 20, 0)?;
@@ -75,6 +93,8 @@ impl File<'_> {
         // 22: target or map too short.
         refuse_if((target as u64) < q.pixels() * pixel_length, 22, 0)?;
         refuse_if((map as u64) < map_length(q), 22, 0)?;
+        // A buffer under 49 bytes is 22 (Req 09), however short the text would be.
+        refuse_if(sheet.is_some_and(|length| length < SHEET), 22, 0)?;
         // 23: a selected tile that meets the window has another type; the first such entry.
         for tile in &self.tiles {
             let other = q.selects(tile) && q.meets(tile) && tile.pixel_type != q.pixel_type;

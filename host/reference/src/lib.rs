@@ -9,7 +9,8 @@
 //! index out of bounds here (a panic) is a fault of the reading order.
 //!
 //! [`judge`] is the door: it answers a [`File`] or the first [`Refusal`], by the
-//! [`Release`] that the caller says, and all else is asked of the [`File`].
+//! [`Release`] that the caller says, and all else is asked of the [`File`]. But for a
+//! [`quote`], whose settings go before the file.
 
 #![forbid(unsafe_code)]
 
@@ -26,9 +27,11 @@ mod listing;
 mod metadata;
 mod pixel;
 mod question;
+mod quote;
 mod refusal;
 mod release;
 mod segment;
+mod settings;
 mod sub_block;
 mod tile;
 
@@ -42,8 +45,10 @@ pub use judge::{judge, File};
 pub use listing::{list, Edges, Summary, LISTING_LIMIT};
 pub use pixel::bytes_a_pixel;
 pub use question::{Chosen, Masks, Question};
+pub use quote::{quote, Quoted, SHEET};
 pub use refusal::Refusal;
 pub use release::Release;
 pub use segment::{Kind, Segment};
+pub use settings::Settings;
 pub use sub_block::fixed_part;
 pub use tile::{Extent, Tile};

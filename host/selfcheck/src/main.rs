@@ -1,6 +1,7 @@
 //! The reference and the generator held against each other: sound files are
 //! accepted and read as planned, damaged ones refused as foretold, metadata
-//! declare a container as foretold, questions are answered as a painter would.
+//! declare a container as foretold, questions are answered as a painter would,
+//! settings of a quote are read as drawn or refused as foretold.
 //! Prints how often each freedom and each clause was reached; one reached not
 //! once fails the run, as any difference does.
 
@@ -13,6 +14,7 @@ mod options;
 mod painter;
 mod questions;
 mod report;
+mod settings;
 
 use generate::{sound, Random};
 use options::Options;
@@ -28,6 +30,15 @@ fn main() -> ExitCode {
             return ExitCode::from(2);
         }
     };
+    if let Some(settings) = options.settings {
+        return match settings::write(options.first, settings) {
+            Ok(()) => ExitCode::SUCCESS,
+            Err(error) => {
+                eprintln!("selfcheck: {error}");
+                ExitCode::FAILURE
+            }
+        };
+    }
     let begun = Instant::now();
     let report = run(&options);
     print!("{report}");
@@ -54,6 +65,7 @@ fn run(options: &Options) -> Report {
         damages::check(&sound, random, &mut report);
         metadata::check(random, &mut report);
         questions::check(&sound, random, options.questions, &mut report);
+        settings::check(&sound, random, &mut report);
     }
     report
 }
@@ -68,6 +80,7 @@ mod tests {
             first: 0,
             files: 300,
             questions: 5,
+            settings: None,
         });
         assert!(report.passed(), "{report}");
     }

@@ -1,7 +1,10 @@
 //! The command's arguments.
 
 /// How the command is called.
-pub const USAGE: &str = "usage: selfcheck [--files N] [--first SEED] [--questions N-A-FILE]";
+pub const USAGE: &str = "usage: selfcheck [--files N] [--first SEED] [--questions N-A-FILE]
+       selfcheck --settings N [--first SEED]
+
+--settings writes so many settings of a quote instead, for reading.py.";
 
 /// What is to be run.
 pub struct Options {
@@ -11,6 +14,8 @@ pub struct Options {
     pub files: u64,
     /// Questions to each file, beside those that are refused by plan.
     pub questions: u64,
+    /// So many settings are written instead.
+    pub settings: Option<u64>,
 }
 
 impl Options {
@@ -20,12 +25,14 @@ impl Options {
             first: 0,
             files: 1000,
             questions: 5,
+            settings: None,
         };
         while let Some(name) = arguments.next() {
             let field = match name.as_str() {
                 "--files" => &mut options.files,
                 "--first" => &mut options.first,
                 "--questions" => &mut options.questions,
+                "--settings" => options.settings.insert(0),
                 _ => return Err(format!("unknown argument {name}")),
             };
             let value = arguments.next().ok_or(format!("{name} wants a number"))?;

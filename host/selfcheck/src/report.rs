@@ -2,7 +2,10 @@
 
 use generate::ask::{ask_clauses, ask_freedoms, REQUEST_CLAUSES};
 use generate::damage::{clauses, EXTERNAL_CLAUSE};
-use generate::{freedoms, metadata_names, Tally, LIMITS, LISTING_CLAUSES, VERDICTS};
+use generate::{
+    freedoms, metadata_names, settings_clauses, settings_freedoms, Tally, LIMITS, LISTING_CLAUSES,
+    VERDICTS,
+};
 use std::fmt;
 
 /// A run prints so many differences and counts the rest.
@@ -33,12 +36,16 @@ pub struct Report {
     /// Metadata by themselves, and those that declare a container.
     pub metadata: u64,
     pub declared: u64,
+    /// Settings by themselves, and quotes that are answered.
+    pub settings: u64,
+    pub quotes: u64,
     pub freedoms: Tally,
     pub metadata_names: Tally,
     pub limits: Tally,
     pub verdicts: Tally,
     pub ask_freedoms: Tally,
     pub outcomes: Tally,
+    pub settings_freedoms: Tally,
     pub clauses: Tally,
     differences: Vec<String>,
     untold: u64,
@@ -54,7 +61,8 @@ impl Report {
         let all = of_files
             .chain(of_questions)
             .chain(of_requests)
-            .chain(of_listing);
+            .chain(of_listing)
+            .chain(settings_clauses());
         Report {
             seed: 0,
             files: 0,
@@ -63,12 +71,15 @@ impl Report {
             scrambled: 0,
             metadata: 0,
             declared: 0,
+            settings: 0,
+            quotes: 0,
             freedoms: Tally::new("Files that take a freedom", freedoms()),
             metadata_names: Tally::new("Metadata by what they hold", metadata_names()),
             limits: Tally::new("Files at a limit", LIMITS.iter().map(|l| l.name)),
             verdicts: Tally::new("Damaged files by what both releases say", VERDICTS),
             ask_freedoms: Tally::new("Questions that take a freedom", ask_freedoms()),
             outcomes: Tally::new("Questions by what came of them", OUTCOMES),
+            settings_freedoms: Tally::new("Settings that take a freedom", settings_freedoms()),
             clauses: Tally::new("Refusals by clause", all).with_external(EXTERNAL_CLAUSE),
             differences: Vec::new(),
             untold: 0,
@@ -91,7 +102,7 @@ impl Report {
         }
     }
 
-    fn tallies(&self) -> [&Tally; 7] {
+    fn tallies(&self) -> [&Tally; 8] {
         [
             &self.freedoms,
             &self.metadata_names,
@@ -99,6 +110,7 @@ impl Report {
             &self.verdicts,
             &self.ask_freedoms,
             &self.outcomes,
+            &self.settings_freedoms,
             &self.clauses,
         ]
     }
@@ -122,6 +134,11 @@ impl fmt::Display for Report {
             f,
             "{} metadata, {} of them declare a container",
             self.metadata, self.declared
+        )?;
+        writeln!(
+            f,
+            "{} settings, {} quotes that are answered",
+            self.settings, self.quotes
         )?;
         for name in self.tallies().iter().flat_map(|t| t.missing()) {
             writeln!(f, "NOT REACHED: {name}")?;

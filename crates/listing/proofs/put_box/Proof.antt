@@ -1,6 +1,7 @@
 -- `listing::put_box` meets its contract.
 use Rattle.text.proofs.Texts.{appended-both}
-use Rattle.listing.specs.Listing.{line, nameBox}
+use Rattle.text.specs.Text.{line}
+use Rattle.listing.specs.Listing.{nameBox}
 use borrow.Author.Needs.{needs}
 use Rattle.listing.proofs.put_box.Statement.{statement}
 use Rattle.listing.proofs.put_box.Tie as tie

@@ -8,12 +8,14 @@
 #![allow(unsafe_code)]
 
 mod compose;
+mod quote;
 mod tables;
 
 use crate::ffi;
 use crate::refusal::Refusal;
 
 pub use compose::{chosen, compose_plain, compose_quick, ChosenCounts, Counted, Plain};
+pub use quote::{quote, Quoted};
 pub use tables::{dimensions, tiles};
 
 /// What stands behind the out-pointers before a call.
@@ -28,6 +30,9 @@ pub const RELEASE_1_02: u32 = 1;
 
 /// The length of the listing's buffer.
 pub const TEXT: usize = 192;
+
+/// The least length of a quote sheet's buffer; no sheet's text is longer.
+pub const SHEET_MIN: usize = 49;
 
 /// How many numbers a tile record has.
 pub const TILE_NUMBERS: usize = 22;

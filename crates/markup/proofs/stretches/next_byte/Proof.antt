@@ -1,27 +1,27 @@
--- `markup::stretches::quote_end` meets its contract.
+-- `markup::stretches::next_byte` meets its contract.
 use Prim.Native.Nat.{_-_}
 use borrow.Author.Needs.{needs}
 use native.Mathlib.Omega.{arith}
-use Rattle.markup.specs.Stretches.{notQuote}
-use Rattle.markup.proofs.Classes.{quote-goes, quote-stops}
+use Rattle.markup.specs.Stretches.{otherThan}
+use Rattle.markup.proofs.Classes.{other-goes, other-stops}
 use Rattle.markup.proofs.Stretching.{Passing, passing-start, passing-next, passed-here, passed-all}
-use Rattle.markup.proofs.stretches.quote_end.Statement.{statement}
-use Rattle.markup.proofs.stretches.quote_end.Tie as tie
+use Rattle.markup.proofs.stretches.next_byte.Statement.{statement}
+use Rattle.markup.proofs.stretches.next_byte.Tie as tie
 
 abbrev Inv-loop : tie.InvT-loop
-Inv-loop s at end q i₀ i = Passing (notQuote q) s at end i
+Inv-loop s at end q i₀ i = Passing (otherThan q) s at end i
 
 abbrev μ-loop : tie.MeasureT-loop
 μ-loop s at end q i₀ i = end - i
 
 returns : tie.Need-returns Inv-loop μ-loop
-returns c = search (passed-here, quote-stops)
+returns c = search (passed-here, other-stops)
 
 loop-again : tie.Need-loop-again Inv-loop μ-loop
-loop-again c = search (passing-next, quote-goes)
+loop-again c = search (passing-next, other-goes)
 
-pub quote-end-spec : {M : Type 1} → statement M
-quote-end-spec =
+pub next-byte-spec : {M : Type 1} → statement M
+next-byte-spec =
     tie.close
     (tie.spec
     Inv-loop

@@ -1,11 +1,11 @@
--- `listing::put_line` meets its contract.
+-- `text::put_line` meets its contract.
 use native.Mathlib.Omega.{arith}
 use Rattle.text.proofs.Texts.{appended-both}
 use Rattle.text.proofs.Digits.{decimal-most}
-use Rattle.listing.specs.Listing.{line}
+use Rattle.text.specs.Text.{line}
 use borrow.Author.Needs.{needs}
-use Rattle.listing.proofs.put_line.Statement.{statement}
-use Rattle.listing.proofs.put_line.Tie as tie
+use Rattle.text.proofs.put_line.Statement.{statement}
+use Rattle.text.proofs.put_line.Tie as tie
 
 push-requires : tie.Need-push-requires
 push-requires c κs =
