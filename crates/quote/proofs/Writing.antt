@@ -18,7 +18,7 @@ use Rattle.copies.proofs.Copies.{copied-length, copied-in, copied-past}
 use Rattle.settings.specs.declared.Settings.{Settings}
 use Rattle.quote.specs.Quote.{nameCovered, nameArea, areaOf, sheetText, overlaid}
 use Rattle.quote.specs.Steps.{Pitched, SheetSays, SheetWritten}
-use Rattle.quote.proofs.Sheets.{text-most, overlaid-length}
+use Rattle.quote.proofs.Sheets.{area-fits, text-most, overlaid-length}
 
 -- ---- bytes copied to the start of others
 
@@ -58,9 +58,8 @@ module _ (s : Settings) (count : ℕ) (p : Pitched s) (few : count ≤ 429496729
   product-fits = let most : count * s .«pitch_x» ≤ 4294967296 * 65535 = mul-le-mul few (p .x-most) in omega arith
 
   pub products-fit : count * s .«pitch_x» * s .«pitch_y» < 2 ^ 64
-  products-fit =
-      let most : count * s .«pitch_x» * s .«pitch_y» ≤ 4294967296 * 65535 * 65535 = mul-le-mul (mul-le-mul few (p .x-most)) (p .y-most) in
-      omega arith
+  unfolding areaOf
+  products-fit = area-fits s count few (p .x-most) (p .y-most)
 
   pub lines-said : (e c r : Text) → Clean e → Lines.textOf e ≡ [] → Appended e (line nameCovered (decimal count)) c
       → Appended c (line nameArea (decimal (count * s .«pitch_x» * s .«pitch_y»))) r → SheetSays s count r

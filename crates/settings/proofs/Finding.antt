@@ -27,14 +27,10 @@ use Rattle.settings.specs.declared.Edition.{Edition}
 use Rattle.settings.specs.declared.Edition.the-variants.{First, Second}
 use Rattle.settings.specs.declared.Settings.{Settings}
 use Rattle.settings.specs.declared.SettingsAnswer.the-variants as Ans
-use Rattle.settings.proofs.Places.{pitch-spelled}
+use Rattle.settings.proofs.Lines.{long-x, long-y}
+use Rattle.settings.proofs.Places.{only, pitch-spelled}
 
 -- ---- tests of which the last decides
-
-only : (t : Bool) → t ≡ anyOf (t ∷ [])
-unfolding anyOf
-only true = refl
-only false = refl
 
 not-only : (t : Bool) → not t ≡ not (anyOf (t ∷ []))
 not-only t = ap not (only t)
@@ -192,14 +188,6 @@ behind-line bs at r p b =
     }
 
 -- ---- all lines
-
-long-x : length namePitchX ≡ 8
-unfolding namePitchX
-long-x = refl
-
-long-y : length namePitchY ≡ 8
-unfolding namePitchY
-long-y = refl
 
 second-is : (bs : List ℕ) → secondLine bs ≡ rest bs 10
 unfolding secondLine

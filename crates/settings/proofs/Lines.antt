@@ -14,7 +14,7 @@ use Rattle.format.proofs.Stretches.{drop-front, begins-own, begins-is}
 use Rattle.text.specs.Text.{line}
 use Rattle.question.specs.declared.Masks.{Masks}
 use Rattle.question.specs.declared.Masks.the-variants.{NotChosen, On, Off}
-use Rattle.settings.specs.Settings.{Spelling, spelled, Spells, nameEdition, nameMasks, editionText, masksLine}
+use Rattle.settings.specs.Settings.{Spelling, spelled, Spells, nameEdition, namePitchX, namePitchY, nameMasks, editionText, masksLine}
 use Rattle.settings.specs.Reading.{spellingAt, behindPitch, pitchAt, pitchBad, editionBad, editionAt, pitchLineBad, behindPitchLine, masksBad, masksAt}
 use Rattle.settings.specs.declared.Edition.{Edition}
 use Rattle.settings.specs.declared.Edition.the-variants.{First, Second}
@@ -28,6 +28,14 @@ unfolding line
 line-parts name value r = append-assoc (name ++ value) (10 ∷ []) r ∙ append-assoc name value (10 ∷ r)
 
 -- ---- a pitch's line, whose name has 8 bytes
+
+pub long-x : length namePitchX ≡ 8
+unfolding namePitchX
+long-x = refl
+
+pub long-y : length namePitchY ≡ 8
+unfolding namePitchY
+long-y = refl
 
 -- one that is read
 pub record PitchLineRead (name bs : List ℕ) : Type 0 where

@@ -21,10 +21,11 @@ use Rattle.settings.specs.Steps.{rest, Behind}
 some-count : (n : ℕ) → eqb n 0 ≡ false → 1 ≤ n
 some-count n e = let h = eqb-false n 0 e in omega arith
 
-last : (b : Bool) → b ≡ anyOf (b ∷ [])
+-- of one test that test decides
+pub only : (b : Bool) → b ≡ anyOf (b ∷ [])
 unfolding anyOf
-last true = refl
-last false = refl
+only true = refl
+only false = refl
 
 -- ---- digits that reach from a place to another
 
@@ -89,7 +90,7 @@ module _ (bs : List ℕ) (at stop : ℕ) (r : Bool) (w : at ≤ length bs) (e : 
 
   pub point-followed : (stop ≡ at + 1 → ⊥) → ltb 3 (stop - (at + 1)) ≡ decimalsBad (rest bs at)
   unfolding anyOf
-  point-followed h = rw (bad-is, ne-eqb (stop - (at + 1)) 0 (λ z. h (omega (arith, d .from)))) (last (ltb 3 (stop - (at + 1))))
+  point-followed h = rw (bad-is, ne-eqb (stop - (at + 1)) 0 (λ z. h (omega (arith, d .from)))) (only (ltb 3 (stop - (at + 1))))
 
   pub point-end : Behind bs at (behindDecimals (rest bs at)) stop
   unfolding behindDecimals
@@ -126,7 +127,7 @@ module _ (bs : List ℕ) (at stop : ℕ) (d : Passed digit bs at (length bs) sto
 
   pub whole-right : (r : Bool) → (stop ≡ at → ⊥) → stop - at ≤ 5 → r ≡ decimalsBad (rest bs stop) → r ≡ spellingBad (rest bs at)
   unfolding anyOf
-  whole-right r h k e = rw (spelling-is, ne-eqb (stop - at) 0 (λ z. h (omega (arith, d .from))), le-ltb 5 (stop - at) k, ← e) (last r)
+  whole-right r h k e = rw (spelling-is, ne-eqb (stop - at) 0 (λ z. h (omega (arith, d .from))), le-ltb 5 (stop - at) k, ← e) (only r)
 
   -- a right spelling
   pub whole-near : spellingBad (rest bs at) ≡ false → stop ≤ at + 5
@@ -161,4 +162,4 @@ module _ (x : List ℕ) (r : Bool) (e : r ≡ spellingBad x) where
 
     pub pitch-most : (n ≡ 0 → ⊥) → ltb 65535 n ≡ pitchBad x
     unfolding pitchBad anyOf
-    pitch-most z = rw (← e, h, ← f, ne-eqb n 0 z) (last (ltb 65535 n))
+    pitch-most z = rw (← e, h, ← f, ne-eqb n 0 z) (only (ltb 65535 n))

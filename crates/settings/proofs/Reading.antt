@@ -21,19 +21,9 @@ use Rattle.settings.specs.Reading.{secondLine, thirdLine, lastLine, sett
 use Rattle.settings.specs.Answers.{commaPlace, settingsRows, settingsVerdict}
 use Rattle.settings.specs.Claims.{AllSettings}
 use Rattle.settings.specs.declared.Settings.{Settings}
-use Rattle.settings.proofs.Lines.{pitch-line-found, pitch-line-behind, pitch-line-good, pitch-line-right}
+use Rattle.settings.proofs.Lines.{long-x, long-y, pitch-line-found, pitch-line-behind, pitch-line-good, pitch-line-right}
 use Rattle.settings.proofs.Lines.{edition-found, edition-behind, edition-good, edition-right, masks-found, masks-good, masks-right}
 use Rattle.settings.proofs.Commas.{comma-place, comma-first, without-place, without-text}
-
--- ---- both names of pitches have 8 bytes
-
-long-x : length namePitchX ≡ 8
-unfolding namePitchX
-long-x = refl
-
-long-y : length namePitchY ≡ 8
-unfolding namePitchY
-long-y = refl
 
 -- ---- a text is read as its settings
 
