@@ -112,3 +112,22 @@ least-is zero t e = absurd (true≢false (sym e))
 least-is (suc n) t e =
     by-bool (anyBelow n t) (λ a. let l = least-is n t a in record { below = rw a (omega (arith, l .below)); holds = rw a (l .holds) })
     (λ a. by-bool (t n) (λ b. record { below = rw (a, b) (omega arith); holds = rw (a, b) b }) (λ b. absurd (true≢false (sym e ∙ rw (a, b)))))
+
+-- ---- tests that agree below n
+
+pub any-alike : (n : ℕ) (t u : ℕ → Bool) → ((i : ℕ) → i < n → t i ≡ u i) → anyBelow n t ≡ anyBelow n u
+unfolding anyBelow
+any-alike zero t u h = refl
+any-alike (suc n) t u h = rw (any-alike n t u (λ i l. h i (omega arith)), h n (omega arith))
+
+pub all-alike : (n : ℕ) (t u : ℕ → Bool) → ((i : ℕ) → i < n → t i ≡ u i) → allBelow n t ≡ allBelow n u
+unfolding allBelow
+all-alike zero t u h = refl
+all-alike (suc n) t u h = rw (all-alike n t u (λ i l. h i (omega arith)), h n (omega arith))
+
+pub least-alike : (n : ℕ) (t u : ℕ → Bool) → ((i : ℕ) → i < n → t i ≡ u i) → leastBelow n t ≡ leastBelow n u
+unfolding leastBelow
+least-alike zero t u h = refl
+least-alike (suc n) t u h =
+    let f : (i : ℕ) → i < n → t i ≡ u i = λ i l. h i (omega arith) in
+    rw (any-alike n t u f, least-alike n t u f, h n (omega arith))

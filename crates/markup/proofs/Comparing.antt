@@ -12,6 +12,8 @@ use lib.Dec.{eqb}
 use Rattle.format.specs.Bytes.{allBelow, sameAt, sameRange, partOf}
 use Rattle.format.specs.Markup.{begins}
 use Rattle.format.specs.Container.{sameBytes}
+use Rattle.format.proofs.Below.{all-alike}
+use Rattle.format.proofs.Parts.{part-length}
 use Rattle.markup.specs.Stretches.{stretch}
 use Rattle.markup.proofs.Stretching.{stretch-none, stretch-one, stretch-length}
 
@@ -21,11 +23,6 @@ all-first : (n : ℕ) (t : ℕ → Bool) → allBelow (suc n) t ≡ (t 0 && allB
 unfolding allBelow
 all-first zero t = sym (and-true (t 0))
 all-first (suc n) t = rw (all-first n t) (and-assoc (t 0) (allBelow n (λ i. t (suc i))) (t (suc n)))
-
-all-like : (n : ℕ) (t u : ℕ → Bool) → ((i : ℕ) → i < n → t i ≡ u i) → allBelow n t ≡ allBelow n u
-unfolding allBelow
-all-like zero t u f = refl
-all-like (suc n) t u f = rw (all-like n t u (λ i h. f i (omega arith)), f n (omega arith))
 
 same-first : (bs : List ℕ) (p x : ℕ) (xs : List ℕ) → sameAt bs p (x ∷ xs) ≡ (eqb (getD bs p 0) x && sameAt bs (p + 1) xs)
 unfolding sameAt
@@ -75,12 +72,6 @@ same-begins [] (y ∷ ys) e = absurd (omega (arith, e))
 same-begins (x ∷ xs) [] e = absurd (omega (arith, e))
 same-begins (x ∷ xs) (y ∷ ys) e = ap (λ (t : Bool). eqb x y && t) (same-begins xs ys (omega (arith, e)))
 
-part-length : (bs : List ℕ) (p n : ℕ) → p + n ≤ length bs → length (partOf bs p n) ≡ n
-unfolding partOf
-part-length bs p n h =
-    let d = length-drop p bs in
-    length-take-le n (drop p bs) (omega (arith, d))
-
 part-stretch : (bs : List ℕ) (p n : ℕ) → partOf bs p n ≡ stretch bs p (p + n)
 unfolding stretch
 part-stretch bs p n = let e : p + n - p ≡ n = omega arith in rw e
@@ -101,7 +92,7 @@ module _ (bs : List ℕ) (a n b m : ℕ) (h : a + n ≤ length bs) (k : b + m �
   range-part : sameRange m bs a bs b ≡ sameAt bs a (partOf bs b m)
   unfolding sameRange sameAt partOf
   range-part =
-      rw (part-length bs b m k) (all-like m _ _ (λ i l. rw (getD-take m (drop b bs) i 0 l ∙ getD-drop b bs i 0)))
+      rw (part-length bs b m k) (all-alike m _ _ (λ i l. rw (getD-take m (drop b bs) i 0 l ∙ getD-drop b bs i 0)))
 
   pub same-parts : (r : Bool) → n ≡ m → r ≡ sameRange n bs a bs b → r ≡ sameBytes (partOf bs a n) (partOf bs b m)
   same-parts r e z =

@@ -10,4 +10,5 @@ pub mod TurnLaws
 pub mod Demand3
 pub mod SortedRuns
 pub mod Skip
+pub mod Alike
 pub mod Partitions
