@@ -1,4 +1,4 @@
--- Every refusal of a file, of a question by number or of a composer has a number of at most 30, and of a quote of at most 35. Assumes nothing.
+-- Every refusal of a file, of a question by number or of a composer has a number of at most 30, of a quote of at most 35, and of a repack of at most 36. Assumes nothing.
 use Prim.Native.Nat.{ℕ, zero, suc, _≤_}
 use mathlib.Core.Path.{_≡_, refl}
 use mathlib.Core.List.{List, [], _∷_, _++_}
@@ -44,7 +44,13 @@ use Rattle.settings.specs.Answers.{commaPlace, settingsRows, settingsVerdict}
 use Rattle.quote.specs.Quote as Quote
 use Rattle.quote.specs.Quote.{QuoteAsked, askedWith, sheetBad, quoteVerdict, QuoteAnswered}
 use Rattle.quote.specs.declared.Quoted.{Quoted}
+use Rattle.repacked.specs.NewFile.{repacked}
+use Rattle.repacked.specs.Refusals.{tooLarge, sizeVerdict, repackVerdict}
+use Rattle.repack.specs.Answers as Repack
+use Rattle.repack.specs.Answers.{RepackAnswered}
+use Rattle.repack.specs.declared.RepackAnswer.{RepackAnswer}
 use Rattle.format.proofs.Below.{and-both}
+use Rattle.format.proofs.Firsts.{first-append}
 
 -- every row has such a number: of rows that are written out this computes
 lows : List Check → Bool
@@ -196,3 +202,25 @@ quote-verdict-low q target map sheet =
 
 pub quote-low : {k : Kind} {q : QuoteAsked} {t m u t′ m′ u′ : List ℕ} {r : Quoted} → QuoteAnswered k q t m u t′ m′ u′ r → Quote.numberIn r ≤ 35
 quote-low {q = q} {t = t} {m = m} {u = u} h = rw (h .number-is) (quote-verdict-low q (length t) (length m) (length u))
+
+-- ---- a repack
+
+-- behind a verdict of such a number, 36 or 25
+large-low : (v : Verdict) (a b : Bool) → numberOf v ≤ 30 → numberOf (andThen v (cond a (Refused 36 0) (cond b (Refused 25 0) Accepted))) ≤ 36
+large-low Accepted true b h = omega arith
+large-low Accepted false true h = omega arith
+large-low Accepted false false h = omega arith
+large-low (Refused n p) a b h = omega arith
+
+pub size-low : (sc : Scan) → numberOf (sizeVerdict sc) ≤ 36
+unfolding sizeVerdict
+size-low sc = rw first-append (large-low (first (checks sc)) (tooLarge (sc .file)) false (low _ (checks-lows sc)))
+
+pub repack-low : (sc : Scan) (out : ℕ) → numberOf (repackVerdict sc out) ≤ 36
+unfolding repackVerdict
+repack-low sc out =
+    rw first-append (large-low (first (checks sc)) (tooLarge (sc .file)) (ltb out (length (repacked (sc .file)))) (low _ (checks-lows sc)))
+
+-- the answer r about w
+pub repack-answer-low : {w : Verdict} {n : ℕ} {r : RepackAnswer} → RepackAnswered w n r → numberOf w ≤ 36 → Repack.numberIn r ≤ 36
+repack-answer-low h l = rw (h .number-is) l

@@ -32,12 +32,18 @@ use Rattle.format.specs.declared.AttachmentAnswer.the-variants as AttachmentIs
 use Rattle.tables.specs.Numbers.{tileNumbers, tileStarts}
 use Rattle.tables.specs.Tables.{tilesVerdict, TileArrays, TableAnswered}
 use Rattle.tables.specs.declared.tiles.Table.{Table}
+use Rattle.repacked.specs.NewFile.{repacked}
+use Rattle.repacked.specs.Refusals.{sizeVerdict, repackVerdict}
+use Rattle.repack.specs.Answers as Repack
+use Rattle.repack.specs.Answers.{lengthIn, RepackAnswered, outAfter}
+use Rattle.repack.specs.declared.RepackAnswer.{RepackAnswer}
 use Rattle.quote.specs.Quote as Quote
 use Rattle.quote.specs.Quote.{QuoteAsked, quotedCovered, quotedLength, QuoteAnswered}
 use Rattle.quote.specs.Steps.{quoteAsked}
 use Rattle.quote.specs.declared.QuoteRequest.{QuoteRequest}
 use Rattle.quote.specs.declared.Quoted.{Quoted}
 use Rattle.czi.specs.Quote.{quoteRequest, QuoteOut}
+use Rattle.czi.specs.Repack.{RepackSizeOut, RepackOut}
 use Rattle.text.specs.Text.{textOf, Clean}
 use Rattle.text.specs.declared.Text.{Text}
 use Rattle.text.proofs.Texts.{text-length}
@@ -196,3 +202,17 @@ quote-out {left = left} {top = top} h l t en ep ec ew =
       map-is = h .map-is;
       sheet-is = h .sheet-is;
     })
+
+-- ---- a repack, under the release that the number says
+
+module _ (bs : List ℕ) (rel : Release) (release : ℕ) (e : rel ≡ releaseOf release) where
+  pub repack-size-out : {r : RepackAnswer} {number place size : ℕ}
+      → RepackAnswered (sizeVerdict (scanOf bs rel)) (length (repacked bs)) r
+      → number ≡ Repack.numberIn r → place ≡ Repack.placeIn r → size ≡ lengthIn r → RepackSizeOut (lentScan bs release) number place size
+  repack-size-out h en ep es = rw (← e) (record { number-is = en ∙ h .number-is; place-is = ep ∙ h .place-is; size-is = es ∙ h .length-is })
+
+  pub repack-out : {out out′ : List ℕ} {r : RepackAnswer} {number place written : ℕ}
+      → RepackAnswered (repackVerdict (scanOf bs rel) (length out)) (length (repacked bs)) r → out′ ≡ outAfter (scanOf bs rel) out
+      → number ≡ Repack.numberIn r → place ≡ Repack.placeIn r → written ≡ lengthIn r → RepackOut (lentScan bs release) out out′ number place written
+  repack-out h o en ep ew =
+      rw (← e) (record { number-is = en ∙ h .number-is; place-is = ep ∙ h .place-is; written-is = ew ∙ h .length-is; out-is = o })

@@ -5,3 +5,4 @@ pub mod Numbers
 pub mod Out
 pub mod Plane
 pub mod Quote
+pub mod Repack

@@ -7,5 +7,6 @@ pub mod figures;
 pub mod planes;
 pub mod quotes;
 pub mod records;
+pub mod repacks;
 pub mod verdict;
 pub mod views;
