@@ -4,3 +4,4 @@ pub mod Counts
 pub mod Written
 pub mod Sections
 pub mod Quotes
+pub mod Repacks
