@@ -1,13 +1,15 @@
-"""The listing of papers 01 and 02, and the settings and sheet of a quote, read straight from their text and apart from the
-crates.
+"""The listing of papers 01 and 02, the settings and sheet of a quote, and the clean file of a repack, read straight from their
+text and apart from the crates.
 
 As a program it lists standard input, by release 1.2 or by the one that is named: 1.02. It is plain on purpose: the papers'
 sentences in their order. With the word settings it reads the lines of `selfcheck --settings N` and says where it reads
-settings otherwise.
+settings otherwise, with the word repacks those of `selfcheck --repacks N`, where it writes another clean file.
 """
+import mmap
 import re
 import struct
 import sys
+import tempfile
 from decimal import Decimal
 
 NAMES = [b"ZISRAWFILE", b"ZISRAWDIRECTORY", b"ZISRAWSUBBLOCK", b"ZISRAWMETADATA", b"ZISRAWATTACH",
@@ -81,6 +83,9 @@ class Reading:
         self.segments = {}  # by position
         self.tiles = []     # (X, Y) as (start, size, stored size)
         self.attachments = 0
+        # For a repack: of each entry DV its bytes, F, the sizes of its parts and where these begin; of the metadata segment
+        # both sizes and where the XML begins; of each entry A1 its bytes, the size of its data and where they begin.
+        self.blocks, self.common, self.listed = [], None, None
         self.walk()
         directory, metadata, attachments = self.file_segment()
         self.directory(directory)
@@ -164,6 +169,7 @@ class Reading:
         refuse(fixed + metadata + data + attachment > block.room, 16, block.at)
         refuse(data != x[2] * y[2] * BYTES_A_PIXEL[pixel_type], 16, block.at)
         start = block.body + fixed
+        self.blocks.append((entry, fixed, (metadata, attachment, data), start))
         # By 02, Req 05, every attachment is plain bytes under 1.02.
         if self.release == "1.2" and declares_container(self.file[start:start + metadata]):
             start += metadata + data
@@ -208,11 +214,13 @@ class Reading:
         refuse(segment.room < 256, 10, segment.at)
         xml, attachment = self.int(segment.body), self.int(segment.body + 4)
         refuse(xml < 0 or attachment < 0 or 256 + xml + attachment > segment.room, 10, segment.at)
+        self.common = xml, attachment, segment.body + 256
 
     def attachment_directory(self, segment):
         refuse(segment.room < 256, 10, segment.at)
         count = self.int(segment.body)
         refuse(count < 0 or count > 4096 or 256 + 128 * count > segment.room, 10, segment.at)
+        self.listed = []
         for at in range(segment.body + 256, segment.body + 256 + 128 * count, 128):
             entry = self.file[at:at + 128]
             refuse(entry[:2] != b"A1" or 0 not in entry[48:], 11, at)
@@ -223,6 +231,7 @@ class Reading:
             refuse(self.file[attachment.body + 16:attachment.body + 144] != entry, 15, attachment.at)
             size = self.int(attachment.body)
             refuse(size < 0 or 256 + size > attachment.room, 16, attachment.at)
+            self.listed.append((entry, size, attachment.body + 256))
         self.attachments = count
 
 
@@ -292,7 +301,110 @@ def compare_settings(lines):
     return sound * 10 > count > 0
 
 
-if __name__ == "__main__" and sys.argv[1:] == ["settings"]:
-    sys.exit(0 if compare_settings(sys.stdin) else 1)
+# The clean file of a repack, Req 04.
+
+def repack(file, release="1.2"):
+    """The clean file, as bytes. Raises Refused: the file's own refusals, then 36."""
+    read = Reading(file, release)
+    sizes, positions, end = lay(read)
+    clean = bytearray(end)
+    for (name, used), at, content in zip(sizes, positions, contents(file, read, sizes, positions), strict=True):
+        struct.pack_into("<16sqq", clean, at, name, allocated(used), used)
+        clean[at + HEADER:at + HEADER + len(content)] = content
+    return bytes(clean)
+
+
+def repack_size(file, release="1.2"):
+    """How long the clean file is. Raises Refused as well."""
+    return lay(Reading(file, release))[-1]
+
+
+def lay(read):
+    """Name and UsedSize of each segment of the clean file, their positions, and its length."""
+    sizes = [(FILE, 512), (DIRECTORY, 128 + sum(len(entry) for entry, *_ in read.blocks))]
+    sizes += [(SUBBLOCK, fixed + sum(parts)) for _, fixed, parts, _ in read.blocks]
+    if read.common is not None:
+        sizes.append((METADATA, 256 + read.common[0] + read.common[1]))
+    if read.listed is not None:
+        sizes.append((ATTDIR, 256 + 128 * len(read.listed)))
+        sizes += [(ATTACH, 256 + size) for _, size, _ in read.listed]
+    positions, end = [], 0
+    for _, used in sizes:
+        positions.append(end)
+        end += HEADER + allocated(used)
+    refuse(len(sizes) > 8192 or end > 2**40, 36, 0)
+    return sizes, positions, end
+
+
+def allocated(used):
+    """The smallest multiple of 32 that holds it."""
+    return (used + 31) // 32 * 32
+
+
+def contents(file, read, sizes, positions):
+    """The contents in the order of the clean file; what is behind one is zero."""
+    def at(name):
+        return [position for position, size in zip(positions, sizes) if size[0] == name]
+
+    fields = struct.pack("<4xqqi", *at(DIRECTORY), *(at(METADATA) or [0]), 0), struct.pack("<q", *(at(ATTDIR) or [0]))
+    yield file[HEADER:HEADER + 8] + bytes(8) + file[HEADER + 16:HEADER + 48] + b"".join(fields)
+    entries = [entry[:6] + struct.pack("<q", position) + entry[14:23] + bytes(5) + entry[28:]
+               for (entry, *_), position in zip(read.blocks, at(SUBBLOCK))]
+    yield struct.pack("<i124x", len(entries)) + b"".join(entries)
+    for entry, (_, fixed, parts, start) in zip(entries, read.blocks):
+        yield (struct.pack("<iiq", *parts) + entry).ljust(fixed, b"\0") + file[start:start + sum(parts)]
+    if read.common is not None:
+        xml, attachment, start = read.common
+        yield struct.pack("<ii248x", xml, attachment) + file[start:start + xml + attachment]
+    if read.listed is not None:
+        entries = [struct.pack("<2s10xq4x", b"A1", position) + entry[24:]
+                   for (entry, *_), position in zip(read.listed, at(ATTACH))]
+        yield struct.pack("<i252x", len(entries)) + b"".join(entries)
+        for entry, (_, size, start) in zip(entries, read.listed):
+            yield struct.pack("<i12x", size) + entry + bytes(112) + file[start:start + size]
+
+
+def said_of_repack(file, release):
+    """What a line of `selfcheck --repacks` ends with. A file that is mostly zero bytes stands there as its length and
+    what is not zero, each part behind its offset; of its clean file the length is said."""
+    try:
+        if file.startswith("0x"):
+            return repack(bytes.fromhex(file[2:]), release)
+        with tempfile.TemporaryFile() as sparse:
+            length, *parts = file.split(",")
+            sparse.truncate(int(length))
+            for at, part in (part.split(":") for part in parts):
+                sparse.seek(int(at))
+                sparse.write(bytes.fromhex(part))
+            sparse.flush()
+            with mmap.mmap(sparse.fileno(), 0, access=mmap.ACCESS_READ) as mapped:
+                return b"bytes=%d\n" % repack_size(mapped, release)
+    except Refused as r:
+        return b"refused=%d\nplace=%d\n" % (r.number, r.place)
+
+
+def compare_repacks(lines):
+    """Reads the lines; answers whether all are as they say, over half of them clean files, and some at the limits of 36."""
+    count, clean, longest, refused = 0, 0, 0, 0
+    for line in lines:
+        release, file, said = line.split()
+        said, written = bytes.fromhex(said[2:]), said_of_repack(file, release)
+        if written != said:
+            at = next((n for n, two in enumerate(zip(written, said)) if two[0] != two[1]), min(len(written), len(said)))
+            print(f"DIFFERENT: repack under {release} of {file[:60]}: {len(written)} bytes instead of {len(said)}, at {at}: "
+                  f"{written[at:at + 24]} instead of {said[at:at + 24]}")
+            return False
+        count += 1
+        clean += said.startswith(FILE)
+        longest += said == b"bytes=%d\n" % 2**40
+        refused += said == b"refused=36\nplace=0\n"
+    print(f"repacks by a third reading: {count}, of which {clean} are clean files, {longest} would have 2^40 bytes, "
+          f"and {refused} are refused as 36")
+    return clean * 2 > count and longest > 0 and refused > 0
+
+
+if __name__ == "__main__" and sys.argv[1:] in (["settings"], ["repacks"]):
+    compare = {"settings": compare_settings, "repacks": compare_repacks}[sys.argv[1]]
+    sys.exit(0 if compare(sys.stdin) else 1)
 elif __name__ == "__main__":
     sys.stdout.buffer.write(listing(sys.stdin.buffer.read(), *sys.argv[1:2]))

@@ -15,17 +15,20 @@ pub struct Compared {
     pub chosen: u64,
     /// Quotes.
     pub quotes: u64,
+    /// Repacks.
+    pub repacks: u64,
 }
 
 impl Compared {
     /// All of them.
-    pub fn counts(&self) -> [u64; 5] {
+    pub fn counts(&self) -> [u64; 6] {
         [
             self.calls,
             self.questions,
             self.tables,
             self.chosen,
             self.quotes,
+            self.repacks,
         ]
     }
 
@@ -36,16 +39,18 @@ impl Compared {
         self.tables += other.tables;
         self.chosen += other.chosen;
         self.quotes += other.quotes;
+        self.repacks += other.repacks;
     }
 }
 
 impl fmt::Display for Compared {
     fn fmt(&self, f: &mut fmt::Formatter<'_>) -> fmt::Result {
-        let [calls, questions, tables, chosen, quotes] = self.counts();
+        let [calls, questions, tables, chosen, quotes, repacks] = self.counts();
         write!(
             f,
             "{questions} questions to both composers, {chosen} for what is selected, \
-             {tables} tables of all records, {quotes} quotes, {calls} calls of the library in all"
+             {tables} tables of all records, {quotes} quotes, {repacks} repacks, \
+             {calls} calls of the library in all"
         )
     }
 }

@@ -4,6 +4,7 @@ use crate::planes;
 use crate::quotes;
 use crate::read::Read;
 use crate::reader;
+use crate::repacks;
 use crate::report::Report;
 use generate::damage::{behind_a_container, clauses, scramble, Damaged};
 use generate::{Random, Sound};
@@ -48,6 +49,7 @@ pub fn check(sound: &Sound, random: &mut Random, report: &mut Report) {
         reader::check(&read, report);
         planes::check_damaged(&read, sound, random, report);
         quotes::check_damaged(&read, sound, random, report);
+        repacks::check_damaged(&read, sound, random, report);
     }
 }
 
@@ -72,6 +74,7 @@ fn is_refused(damaged: &Damaged, sound: &Sound, random: &mut Random, report: &mu
     reader::check(&read, report);
     planes::check_damaged(&read, sound, random, report);
     quotes::check_damaged(&read, sound, random, report);
+    repacks::check_damaged(&read, sound, random, report);
     let wanted = Release::ALL.map(|release| damaged.refusal(release));
     report.compare("foretold", &read.refusals(), &wanted)
 }

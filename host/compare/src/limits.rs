@@ -4,6 +4,7 @@ use crate::planes;
 use crate::quotes;
 use crate::read::Read;
 use crate::reader;
+use crate::repacks;
 use crate::report::Report;
 use crate::zeros::Zeros;
 use generate::damage::EXTERNAL_CLAUSE;
@@ -12,6 +13,9 @@ use reference::{list, Refusal, Release};
 
 /// The length above which a file is refused.
 const LONGEST: usize = 1 << 40;
+
+/// Of a hundred files at a limit so many are repacked.
+const REPACKED: u64 = 4;
 
 /// Files at a limit are accepted by both; inputs over 65,536 bytes are not listed.
 pub fn check(sound: &Sound, random: &mut Random, report: &mut Report) {
@@ -24,6 +28,9 @@ pub fn check(sound: &Sound, random: &mut Random, report: &mut Report) {
                 report.limits.add(limit.name);
                 planes::check_damaged(&read, sound, random, report);
                 quotes::check_damaged(&read, sound, random, report);
+                if random.percent(REPACKED) {
+                    repacks::check_damaged(&read, sound, random, report);
+                }
                 report.outcomes.add("a question to a file at a limit");
             }
         }

@@ -1,8 +1,9 @@
 //! The proved library compared with the reference, which was written from the
 //! paper and not from the definitions: generated files, damaged ones, metadata
-//! of every kind, questions to them, and quotes, all under releases 1.2 and 1.02. Every
-//! number of every answer and every lent byte is compared, of refused calls too; and
-//! what the releases have in common is held of the library's own answers. Prints how
+//! of every kind, questions to them, quotes, and repacks, all under releases 1.2 and 1.02.
+//! Every number of every answer and every lent byte is compared, of refused calls too; and
+//! what the releases have in common is held of the library's own answers, as is what a
+//! clean file has of the file that it was made of. Prints how
 //! often each clause was reached; one reached not once fails the run, as any
 //! difference does, and a failing case is kept in a file that says how to run it
 //! again.
@@ -23,6 +24,8 @@ mod quoted;
 mod quotes;
 mod read;
 mod reader;
+mod repacked;
+mod repacks;
 mod report;
 mod settings;
 mod tables;
@@ -64,7 +67,7 @@ fn main() -> ExitCode {
 const SEEDS: u64 = 250;
 
 /// What is compared once in a run, each a part of its own.
-const ONCE: [fn(&mut Report); 9] = [
+const ONCE: [fn(&mut Report); 11] = [
     limits::check_longest,
     metadata::check_long,
     metadata::check_short,
@@ -74,6 +77,8 @@ const ONCE: [fn(&mut Report); 9] = [
     settings::check_nanometres,
     settings::check_long,
     settings::check_large,
+    repacks::check_most_segments,
+    repacks::check_longest,
 ];
 
 /// Compares on the files of all seeds, and what is compared once.
@@ -108,6 +113,7 @@ fn compare(seed: u64, options: &Options, report: &mut Report) {
     reader::check_requests(&read, &sound, random, report);
     planes::check(&read, &sound, random, options.questions, report);
     quotes::check(&read, &sound, random, report);
+    repacks::check(&read, &sound, random, report);
     damages::check(&sound, random, report);
     metadata::check(random, report);
     if seed.is_multiple_of(100) {

@@ -3,11 +3,13 @@
 use crate::case::Case;
 use crate::counts::{Compared, Declared, Sounded};
 use crate::quoted::{ORDERS, QUOTED, SHEETS, SHEET_CLAUSE};
+use crate::repacked::ALIKE;
+use crate::repacks::{BUFFERS, BUFFER_CLAUSES, REPACKED, REPACK_ORDERS};
 use generate::ask::{ask_clauses, ask_freedoms, REQUEST_CLAUSES};
 use generate::damage::{clauses, EXTERNAL_CLAUSE};
 use generate::{
-    freedoms, metadata_names, settings_clauses, settings_freedoms, Tally, LIMITS, LISTING_CLAUSES,
-    VERDICTS,
+    freedoms, metadata_names, settings_clauses, settings_freedoms, Tally, HUGE, LIMITS,
+    LISTING_CLAUSES, REPACK_CLAUSES, REPACK_LIMITS, VERDICTS,
 };
 use reference::Release;
 use std::fmt;
@@ -90,6 +92,12 @@ pub fn name(release: Release) -> &'static str {
     }
 }
 
+/// The names of files whose clean file is about 2^40 bytes long, refused as 36 or not.
+fn huge(refused: bool) -> impl Iterator<Item = &'static str> {
+    let of = HUGE.iter().filter(move |huge| huge.is_refused() == refused);
+    of.map(|huge| huge.name)
+}
+
 /// Counts and differences.
 pub struct Report {
     seed: u64,
@@ -146,6 +154,16 @@ pub struct Report {
     pub quoted: Tally,
     /// What goes before what.
     pub orders: Tally,
+    /// What came of repacks.
+    pub repacked: Tally,
+    /// How long buffers for a clean file are.
+    pub buffers: Tally,
+    /// What a file and its clean file have in common.
+    pub alike: Tally,
+    /// Clean files at a limit.
+    pub repack_limits: Tally,
+    /// Of a repack, what goes before what.
+    pub repack_orders: Tally,
     /// Clauses of the refusal table.
     pub clauses: Tally,
     differences: Vec<String>,
@@ -168,7 +186,11 @@ impl Report {
             .chain(REQUEST_CLAUSES.iter().map(|c| c.name))
             .chain(LISTING_CLAUSES.iter().map(|c| c.name))
             .chain([SHEET_CLAUSE])
-            .chain(settings_clauses());
+            .chain(settings_clauses())
+            .chain(BUFFER_CLAUSES)
+            .chain(REPACK_CLAUSES.iter().map(|l| l.name))
+            .chain(huge(true));
+        let repack_limits = REPACK_LIMITS.iter().map(|l| l.name).chain(huge(false));
         Report {
             seed: 0,
             asked: 0,
@@ -199,6 +221,11 @@ impl Report {
             sheets: Tally::new("Sheets by how long they are", SHEETS),
             quoted: Tally::new("Quotes by what came of them", QUOTED),
             orders: Tally::new("Quotes by what goes first", ORDERS),
+            repacked: Tally::new("Files by what came of a repack", REPACKED),
+            buffers: Tally::new("Repacks by how the buffer is lent", BUFFERS),
+            alike: Tally::new("Clean files by what they have of the file", ALIKE),
+            repack_limits: Tally::new("Clean files at a limit", repack_limits),
+            repack_orders: Tally::new("Repacks by what goes first", REPACK_ORDERS),
             clauses: Tally::new("Refusals by clause", all),
             differences: Vec::new(),
             untold: 0,
@@ -347,7 +374,7 @@ impl Report {
         }
     }
 
-    fn tallies(&self) -> [&Tally; 15] {
+    fn tallies(&self) -> [&Tally; 20] {
         [
             &self.freedoms,
             &self.metadata_names,
@@ -363,11 +390,16 @@ impl Report {
             &self.sheets,
             &self.quoted,
             &self.orders,
+            &self.repacked,
+            &self.buffers,
+            &self.alike,
+            &self.repack_limits,
+            &self.repack_orders,
             &self.clauses,
         ]
     }
 
-    fn tallies_mut(&mut self) -> [&mut Tally; 15] {
+    fn tallies_mut(&mut self) -> [&mut Tally; 20] {
         [
             &mut self.freedoms,
             &mut self.metadata_names,
@@ -383,6 +415,11 @@ impl Report {
             &mut self.sheets,
             &mut self.quoted,
             &mut self.orders,
+            &mut self.repacked,
+            &mut self.buffers,
+            &mut self.alike,
+            &mut self.repack_limits,
+            &mut self.repack_orders,
             &mut self.clauses,
         ]
     }

@@ -19,6 +19,8 @@ struct Draft {
     metadata: Option<(usize, usize, usize)>,
     /// By planned attachment, its segment and its data's length.
     attachments: Vec<(usize, usize)>,
+    /// By planned attachment, its entry.
+    entries_a1: Vec<Vec<u8>>,
     /// By entry A1, the planned attachment.
     attached: Vec<usize>,
     attachment_directory: Option<usize>,
@@ -38,6 +40,7 @@ pub fn sound(seed: u64) -> Sound {
         directory: 0,
         metadata: None,
         attachments: Vec::new(),
+        entries_a1: Vec::new(),
         attached: Vec::new(),
         attachment_directory: None,
     };
@@ -52,6 +55,7 @@ pub fn sound(seed: u64) -> Sound {
     for _ in 0..random.pick(&[0, 0, 1, 1, 2, 3]) {
         draft.plans.push(unnamed(random));
     }
+    draft.add_outdated(random);
     draft.name_from_the_file_segment();
     let arranged = arrange(&draft.plans, random);
     draft.finish(arranged)
@@ -122,15 +126,7 @@ impl Draft {
             }
         }
         random.shuffle(&mut self.listed);
-        let mut content = random.bytes(128);
-        content[0..4].copy_from_slice(&(self.listed.len() as i32).to_le_bytes());
-        let mut links = Vec::new();
-        for &k in &self.listed {
-            links.push((content.len() + 6, self.sub_blocks[k]));
-            content.extend(self.tiles[k].encode_entry(spare(random)));
-        }
-        let mut plan = SegmentPlan::new(Kind::Directory, content);
-        plan.links = links;
+        let mut plan = self.directory_of(&self.listed, random);
         if !self.tiles.is_empty() && random.percent(20) {
             // What stands behind the last entry looks like one more.
             plan.tail = self.tiles[0].encode_entry(spare(random));
@@ -138,21 +134,29 @@ impl Draft {
         self.directory = self.push(plan);
     }
 
+    /// A sub-block directory that lists those tiles.
+    fn directory_of(&self, listed: &[usize], random: &mut Random) -> SegmentPlan {
+        let mut content = random.bytes(128);
+        content[0..4].copy_from_slice(&(listed.len() as i32).to_le_bytes());
+        let mut links = Vec::new();
+        for &k in listed {
+            links.push((content.len() + 6, self.sub_blocks[k]));
+            content.extend(self.tiles[k].encode_entry(spare(random)));
+        }
+        let mut plan = SegmentPlan::new(Kind::Directory, content);
+        plan.links = links;
+        plan
+    }
+
     /// The metadata segment.
     fn add_metadata(&mut self, random: &mut Random) {
-        let xml_size = random.pick(&[0, 1, 17, 60]);
-        let attachment_size = random.pick(&[0, 0, 1, 40]);
-        let mut content = random.bytes(256);
-        content[0..4].copy_from_slice(&(xml_size as i32).to_le_bytes());
-        content[4..8].copy_from_slice(&(attachment_size as i32).to_le_bytes());
-        content.extend(random.bytes(xml_size + attachment_size));
-        let number = self.push(SegmentPlan::new(Kind::Metadata, content));
+        let (plan, xml_size, attachment_size) = metadata(random);
+        let number = self.push(plan);
         self.metadata = Some((number, xml_size, attachment_size));
     }
 
     /// Attachments and their directory.
     fn add_attachments(&mut self, random: &mut Random) {
-        let mut entries = Vec::new();
         for _ in 0..random.pick(&[0, 1, 1, 2, 3]) {
             let entry = entry_a1(random);
             let data_size = random.pick(&[0, 1, 20, 70]);
@@ -168,19 +172,50 @@ impl Draft {
                 self.attached.push(self.attachments.len());
             }
             self.attachments.push((number, data_size));
-            entries.push(entry);
+            self.entries_a1.push(entry);
         }
         random.shuffle(&mut self.attached);
+        let plan = self.attachment_directory_of(&self.attached, random);
+        self.attachment_directory = Some(self.push(plan));
+    }
+
+    /// An attachment directory that lists those attachments.
+    fn attachment_directory_of(&self, attached: &[usize], random: &mut Random) -> SegmentPlan {
         let mut content = random.bytes(256);
-        content[0..4].copy_from_slice(&(self.attached.len() as i32).to_le_bytes());
+        content[0..4].copy_from_slice(&(attached.len() as i32).to_le_bytes());
         let mut links = Vec::new();
-        for &k in &self.attached {
+        for &k in attached {
             links.push((content.len() + 12, self.attachments[k].0));
-            content.extend(&entries[k]);
+            content.extend(&self.entries_a1[k]);
         }
         let mut plan = SegmentPlan::new(Kind::AttachmentDirectory, content);
         plan.links = links;
-        self.attachment_directory = Some(self.push(plan));
+        plan
+    }
+
+    /// Segments that were in use once: sound, and nothing names them now.
+    fn add_outdated(&mut self, random: &mut Random) {
+        if random.percent(12) {
+            let listed: Vec<usize> = (0..self.tiles.len()).rev().collect();
+            let plan = self.directory_of(&listed, random);
+            self.push(plan);
+        }
+        if random.percent(12) {
+            self.push(metadata(random).0);
+        }
+        if random.percent(12) {
+            let attached: Vec<usize> = (0..self.attachments.len()).rev().collect();
+            let plan = self.attachment_directory_of(&attached, random);
+            self.push(plan);
+        }
+        if !self.tiles.is_empty() && random.percent(12) {
+            // A tile's sub-block a second time; its copy names itself.
+            let tile = &self.tiles[random.below(self.tiles.len())];
+            let content = tile.encode_sub_block(spare(random), random.word() as u8);
+            let mut plan = SegmentPlan::new(Kind::SubBlock, content);
+            plan.links.push((16 + 6, self.plans.len()));
+            self.push(plan);
+        }
     }
 
     fn name_from_the_file_segment(&mut self) {
@@ -241,6 +276,18 @@ impl Draft {
             attachment_directory,
         }
     }
+}
+
+/// A metadata segment, and the lengths of the common XML and its attachment.
+fn metadata(random: &mut Random) -> (SegmentPlan, usize, usize) {
+    let xml_size = random.pick(&[0, 1, 17, 60]);
+    let attachment_size = random.pick(&[0, 0, 1, 40]);
+    let mut content = random.bytes(256);
+    content[0..4].copy_from_slice(&(xml_size as i32).to_le_bytes());
+    content[4..8].copy_from_slice(&(attachment_size as i32).to_le_bytes());
+    content.extend(random.bytes(xml_size + attachment_size));
+    let plan = SegmentPlan::new(Kind::Metadata, content);
+    (plan, xml_size, attachment_size)
 }
 
 /// An entry A1, its FilePosition still 0.

@@ -4,18 +4,21 @@
 //! the rules of papers 01 and 02 leave; [`damage`] changes one field of such a file so
 //! that a given clause of the refusal table is reached; [`ask`] gives
 //! questions, answered and refused ones; [`Settings`] and [`FaultySettings`] are
-//! those of a quote. Each says by name what it reached, and a [`Tally`] counts the
-//! names.
+//! those of a quote; [`Sound::clean`] is the clean file that a repack must give, and
+//! [`HUGE`] has files whose clean file is about 2^40 bytes long. Each says by name what it
+//! reached, and a [`Tally`] counts the names.
 
 #![forbid(unsafe_code)]
 
 pub mod ask;
 mod canvas;
+mod clean;
 mod container;
 pub mod damage;
 mod draft;
 mod format;
 mod freedoms;
+mod huge;
 mod limits;
 mod markup;
 mod one_tile;
@@ -30,7 +33,8 @@ mod verdicts;
 pub use draft::sound;
 pub use format::{bytes_a_pixel, Kind, MASK_GUID, PIXEL_TYPES, SECTION};
 pub use freedoms::{freedoms, freedoms_of};
-pub use limits::{Limit, LIMITS, LISTING_CLAUSES};
+pub use huge::{Huge, Sparse, HUGE};
+pub use limits::{Limit, LIMITS, LISTING_CLAUSES, REPACK_CLAUSES, REPACK_LIMITS};
 pub use markup::{draw_tokens, metadata_names, Metadata};
 pub use one_tile::OneTile;
 pub use random::Random;

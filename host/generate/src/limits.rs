@@ -51,6 +51,50 @@ pub const LISTING_CLAUSES: &[Limit] = &[
     },
 ];
 
+/// Accepted files whose clean file has 8,192 segments.
+pub const REPACK_LIMITS: &[Limit] = &[
+    Limit {
+        name: "8,192 segments: 4,096 sub-blocks, 4,092 attachments, metadata",
+        make: |sound, _| repacked(sound, true, 4_096, 4_092),
+    },
+    Limit {
+        name: "8,192 segments: 4,093 sub-blocks, 4,096 attachments, no metadata",
+        make: |sound, _| repacked(sound, false, 4_093, 4_096),
+    },
+];
+
+/// Accepted files whose clean file would have more.
+pub const REPACK_CLAUSES: &[Limit] = &[
+    Limit {
+        name: "36: 4,096 sub-blocks, 4,093 attachments, metadata",
+        make: |sound, _| repacked(sound, true, 4_096, 4_093),
+    },
+    Limit {
+        name: "36: 4,096 sub-blocks, 4,094 attachments, no metadata",
+        make: |sound, _| repacked(sound, false, 4_096, 4_094),
+    },
+    Limit {
+        name: "36: 4,093 sub-blocks, 4,096 attachments, metadata",
+        make: |sound, _| repacked(sound, true, 4_093, 4_096),
+    },
+    Limit {
+        name: "36: 4,096 sub-blocks, 4,096 attachments, no metadata",
+        make: |sound, _| repacked(sound, false, 4_096, 4_096),
+    },
+];
+
+/// So many entries of one sub-block, so many of one attachment, for a file with or without
+/// a metadata segment.
+fn repacked(sound: &Sound, metadata: bool, tiles: usize, attachments: usize) -> Option<Vec<u8>> {
+    if sound.metadata.is_some() != metadata {
+        return None;
+    }
+    let directory = directory_of(sound, shortest_entry(sound)?, tiles);
+    let listed = attachment_directory_of(sound, sound.attachments.first()?, attachments);
+    let bytes = with_named(&sound.bytes, 84, &directory);
+    Some(with_named(&bytes, 104, &listed))
+}
+
 fn most_segments(sound: &Sound, _: &mut Random) -> Option<Vec<u8>> {
     let more = 8_192 - sound.segments.len();
     let mut bytes = sound.bytes.clone();
@@ -60,12 +104,12 @@ fn most_segments(sound: &Sound, _: &mut Random) -> Option<Vec<u8>> {
 
 fn most_entries(sound: &Sound, _: &mut Random) -> Option<Vec<u8>> {
     let directory = directory_of(sound, shortest_entry(sound)?, 4_096);
-    Some(with_named(sound, 84, &directory))
+    Some(with_named(&sound.bytes, 84, &directory))
 }
 
 fn most_attachments(sound: &Sound, _: &mut Random) -> Option<Vec<u8>> {
     let directory = attachment_directory_of(sound, sound.attachments.first()?, 4_096);
-    Some(with_named(sound, 104, &directory))
+    Some(with_named(&sound.bytes, 104, &directory))
 }
 
 fn longest_listed(sound: &Sound, random: &mut Random) -> Option<Vec<u8>> {
@@ -91,10 +135,10 @@ fn padded(sound: &Sound, random: &mut Random, length: usize) -> Vec<u8> {
     bytes
 }
 
-/// The sound file with a segment behind it that the position at `field` names.
-fn with_named(sound: &Sound, field: usize, segment: &[u8]) -> Vec<u8> {
-    let position = sound.bytes.len() as i64;
-    let mut bytes = sound.bytes.clone();
+/// The file with a segment behind it that the position at `field` names.
+fn with_named(file: &[u8], field: usize, segment: &[u8]) -> Vec<u8> {
+    let position = file.len() as i64;
+    let mut bytes = file.to_vec();
     bytes[field..field + 8].copy_from_slice(&position.to_le_bytes());
     bytes.extend(segment);
     bytes

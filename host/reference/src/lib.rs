@@ -9,8 +9,8 @@
 //! index out of bounds here (a panic) is a fault of the reading order.
 //!
 //! [`judge`] is the door: it answers a [`File`] or the first [`Refusal`], by the
-//! [`Release`] that the caller says, and all else is asked of the [`File`]. But for a
-//! [`quote`], whose settings go before the file.
+//! [`Release`] that the caller says, and all else is asked of the [`File`], the clean
+//! file of a repack too. But for a [`quote`], whose settings go before the file.
 
 #![forbid(unsafe_code)]
 
@@ -30,6 +30,7 @@ mod question;
 mod quote;
 mod refusal;
 mod release;
+mod repack;
 mod segment;
 mod settings;
 mod sub_block;

@@ -59,13 +59,23 @@ impl Segment {
     }
 }
 
+/// A name as it stands in a header.
+fn padded(name: &str) -> [u8; 16] {
+    let mut padded = [0; 16];
+    padded[..name.len()].copy_from_slice(name.as_bytes());
+    padded
+}
+
 /// The kind that the 16 bytes name.
 fn kind_of(name: &[u8]) -> Option<Kind> {
-    NAMES.iter().find_map(|&(known, kind)| {
-        let mut padded = [0; 16];
-        padded[..known.len()].copy_from_slice(known.as_bytes());
-        (name == padded).then_some(kind)
-    })
+    let known = NAMES.iter().find(|(known, _)| name == padded(known));
+    known.map(|(_, kind)| *kind)
+}
+
+/// The 16 bytes that name the kind.
+pub(crate) fn name_of(kind: Kind) -> [u8; 16] {
+    let known = NAMES.iter().find(|(_, known)| *known == kind);
+    known.map_or([0; 16], |(name, _)| padded(name))
 }
 
 /// Walks the whole file: for each segment 4, 2, 3, 5. The file's length is a

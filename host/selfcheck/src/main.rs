@@ -1,7 +1,8 @@
 //! The reference and the generator held against each other: sound files are
 //! accepted and read as planned, damaged ones refused as foretold, metadata
 //! declare a container as foretold, questions are answered as a painter would,
-//! settings of a quote are read as drawn or refused as foretold.
+//! settings of a quote are read as drawn or refused as foretold, and the clean file of a
+//! repack is that of the plan.
 //! Prints how often each freedom and each clause was reached; one reached not
 //! once fails the run, as any difference does.
 
@@ -13,6 +14,7 @@ mod metadata;
 mod options;
 mod painter;
 mod questions;
+mod repacks;
 mod report;
 mod settings;
 
@@ -30,8 +32,21 @@ fn main() -> ExitCode {
             return ExitCode::from(2);
         }
     };
-    if let Some(settings) = options.settings {
-        return match settings::write(options.first, settings) {
+    let written = match options {
+        Options {
+            settings: Some(settings),
+            first,
+            ..
+        } => Some(settings::write(first, settings)),
+        Options {
+            repacks: Some(repacks),
+            first,
+            ..
+        } => Some(repacks::write(first, repacks)),
+        _ => None,
+    };
+    if let Some(written) = written {
+        return match written {
             Ok(()) => ExitCode::SUCCESS,
             Err(error) => {
                 eprintln!("selfcheck: {error}");
@@ -61,11 +76,13 @@ fn run(options: &Options) -> Report {
         files::check(&sound, &mut report);
         if seed % 50 == 0 {
             files::check_limits(&sound, random, &mut report);
+            repacks::check_limits(&sound, random, &mut report);
         }
         damages::check(&sound, random, &mut report);
         metadata::check(random, &mut report);
         questions::check(&sound, random, options.questions, &mut report);
         settings::check(&sound, random, &mut report);
+        repacks::check(&sound, &mut report);
     }
     report
 }
@@ -81,6 +98,7 @@ mod tests {
             files: 300,
             questions: 5,
             settings: None,
+            repacks: None,
         });
         assert!(report.passed(), "{report}");
     }

@@ -3,8 +3,10 @@
 /// How the command is called.
 pub const USAGE: &str = "usage: selfcheck [--files N] [--first SEED] [--questions N-A-FILE]
        selfcheck --settings N [--first SEED]
+       selfcheck --repacks N [--first SEED]
 
---settings writes so many settings of a quote instead, for reading.py.";
+--settings writes so many settings of a quote instead, for reading.py, and --repacks so
+many files with their clean files.";
 
 /// What is to be run.
 pub struct Options {
@@ -16,6 +18,8 @@ pub struct Options {
     pub questions: u64,
     /// So many settings are written instead.
     pub settings: Option<u64>,
+    /// So many files with their clean files are written instead.
+    pub repacks: Option<u64>,
 }
 
 impl Options {
@@ -26,6 +30,7 @@ impl Options {
             files: 1000,
             questions: 5,
             settings: None,
+            repacks: None,
         };
         while let Some(name) = arguments.next() {
             let field = match name.as_str() {
@@ -33,6 +38,7 @@ impl Options {
                 "--first" => &mut options.first,
                 "--questions" => &mut options.questions,
                 "--settings" => options.settings.insert(0),
+                "--repacks" => options.repacks.insert(0),
                 _ => return Err(format!("unknown argument {name}")),
             };
             let value = arguments.next().ok_or(format!("{name} wants a number"))?;

@@ -4,7 +4,7 @@ use generate::ask::{ask_clauses, ask_freedoms, REQUEST_CLAUSES};
 use generate::damage::{clauses, EXTERNAL_CLAUSE};
 use generate::{
     freedoms, metadata_names, settings_clauses, settings_freedoms, Tally, LIMITS, LISTING_CLAUSES,
-    VERDICTS,
+    REPACK_CLAUSES, REPACK_LIMITS, VERDICTS,
 };
 use std::fmt;
 
@@ -39,6 +39,8 @@ pub struct Report {
     /// Settings by themselves, and quotes that are answered.
     pub settings: u64,
     pub quotes: u64,
+    /// Sound files that were repacked.
+    pub repacks: u64,
     pub freedoms: Tally,
     pub metadata_names: Tally,
     pub limits: Tally,
@@ -62,7 +64,9 @@ impl Report {
             .chain(of_questions)
             .chain(of_requests)
             .chain(of_listing)
-            .chain(settings_clauses());
+            .chain(settings_clauses())
+            .chain(REPACK_CLAUSES.iter().map(|c| c.name));
+        let limits = LIMITS.iter().chain(REPACK_LIMITS).map(|l| l.name);
         Report {
             seed: 0,
             files: 0,
@@ -73,9 +77,10 @@ impl Report {
             declared: 0,
             settings: 0,
             quotes: 0,
+            repacks: 0,
             freedoms: Tally::new("Files that take a freedom", freedoms()),
             metadata_names: Tally::new("Metadata by what they hold", metadata_names()),
-            limits: Tally::new("Files at a limit", LIMITS.iter().map(|l| l.name)),
+            limits: Tally::new("Files at a limit", limits),
             verdicts: Tally::new("Damaged files by what both releases say", VERDICTS),
             ask_freedoms: Tally::new("Questions that take a freedom", ask_freedoms()),
             outcomes: Tally::new("Questions by what came of them", OUTCOMES),
@@ -137,8 +142,8 @@ impl fmt::Display for Report {
         )?;
         writeln!(
             f,
-            "{} settings, {} quotes that are answered",
-            self.settings, self.quotes
+            "{} settings, {} quotes that are answered, {} repacks",
+            self.settings, self.quotes, self.repacks
         )?;
         for name in self.tallies().iter().flat_map(|t| t.missing()) {
             writeln!(f, "NOT REACHED: {name}")?;

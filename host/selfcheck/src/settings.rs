@@ -166,6 +166,9 @@ pub fn write(first: u64, settings: u64) -> io::Result<()> {
     out.flush()
 }
 
-fn hex(bytes: &[u8]) -> String {
-    bytes.iter().map(|byte| format!("{byte:02x}")).collect()
+/// The bytes as hexadecimal digits.
+pub fn hex(bytes: &[u8]) -> String {
+    let digits = bytes.iter().flat_map(|byte| [byte >> 4, byte & 15]);
+    let digit = |digit| char::from_digit(u32::from(digit), 16);
+    digits.filter_map(digit).collect()
 }

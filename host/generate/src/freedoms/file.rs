@@ -3,7 +3,7 @@
 use crate::format::Kind;
 use crate::sound::Sound;
 
-type OfFile = (&'static str, fn(&Sound) -> bool);
+pub(super) type OfFile = (&'static str, fn(&Sound) -> bool);
 
 pub(super) const OF_FILES: &[OfFile] = &[
     ("no entries", |s| s.entries.is_empty()),
@@ -126,13 +126,21 @@ fn tail_is_entry(sound: &Sound) -> bool {
     sound.bytes[place.content() + place.needed..].starts_with(b"DV")
 }
 
-/// Is there a segment of that kind that nothing names?
-fn unnamed(sound: &Sound, kind: Kind) -> bool {
-    let mut named = vec![sound.directory];
+/// The file segment and all that it or an entry names, in the file's order.
+pub(super) fn named(sound: &Sound) -> Vec<usize> {
+    let mut named = vec![0, sound.directory];
     named.extend(sound.entries.iter().map(|e| e.segment));
     named.extend(sound.metadata.map(|m| m.segment));
     named.extend(sound.attachment_directory);
     named.extend(sound.attachments.iter().map(|a| a.segment));
+    named.sort();
+    named.dedup();
+    named
+}
+
+/// Is there a segment of that kind that nothing names?
+fn unnamed(sound: &Sound, kind: Kind) -> bool {
+    let named = named(sound);
     let of_kind = |k: &usize| sound.segments[*k].kind == kind;
     (0..sound.segments.len()).any(|k| of_kind(&k) && !named.contains(&k))
 }

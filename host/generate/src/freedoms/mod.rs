@@ -4,6 +4,7 @@
 mod file;
 mod mask;
 mod overlap;
+mod repack;
 mod tile;
 
 use crate::sound::Sound;
@@ -11,6 +12,7 @@ use crate::tile::Tile;
 use file::OF_FILES;
 use mask::{OF_CHUNKS, OF_MASKS};
 use overlap::{overlapping_pairs, OF_PAIRS};
+use repack::OF_REPACKS;
 use tile::{OF_TILES, OF_TYPES};
 
 /// The names of all freedoms, in the order of their tables below.
@@ -22,6 +24,7 @@ pub fn freedoms() -> Vec<&'static str> {
     names.extend(OF_CHUNKS.iter().map(|f| f.0));
     names.extend(OF_PAIRS.iter().map(|f| f.0));
     names.extend(OF_FILES.iter().map(|f| f.0));
+    names.extend(OF_REPACKS.iter().map(|f| f.0));
     names
 }
 
@@ -55,7 +58,7 @@ pub fn freedoms_of(sound: &Sound) -> Vec<&'static str> {
             taken.push(name);
         }
     }
-    for &(name, test) in OF_FILES {
+    for &(name, test) in OF_FILES.iter().chain(OF_REPACKS) {
         if test(sound) {
             taken.push(name);
         }

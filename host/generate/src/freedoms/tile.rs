@@ -19,6 +19,8 @@ type OfTile = (&'static str, fn(&Tile) -> bool);
 
 pub(super) const OF_TILES: &[OfTile] = &[
     ("2 dimensions", |t| t.dimensions.len() == 2),
+    ("10 dimensions", |t| t.dimensions.len() == 10),
+    ("11 dimensions", |t| t.dimensions.len() == 11),
     ("11 dimensions or more", |t| t.dimensions.len() >= 11),
     ("16 dimensions", |t| t.dimensions.len() == 16),
     ("a letter before X", |t| t.dimensions[0].letter != b'X'),
