@@ -1,9 +1,9 @@
-/* Reads CZI microscope files (ZISRAW): judges one, hands out its parts and records, lists it, composes its planes, and
- * writes a quote sheet of one.
+/* Reads CZI microscope files (ZISRAW): judges one, hands out its parts and records, lists it, composes its planes, writes
+ * a quote sheet of one, and repacks the file without what is dead in it.
  *
  * A file is lent as its bytes, a pointer and a length. Any bytes and any number get an answer: nothing has to be
- * checked before a call, and no call changes a byte of the file. Lent to be written are a target, a map, a sheet, marks
- * and the arrays of records: a refused call changes none of them.
+ * checked before a call, and no call changes a byte of the file. Lent to be written are a target, a map, a sheet, marks,
+ * the arrays of records and the buffer of a repack: a refused call changes none of them.
  *
  * release is that of the format by which the file is judged: CZI_RELEASE_1_2, or CZI_RELEASE_1_02, which has no chunk
  * containers. Use the names CZI_RELEASE_1_2 and CZI_RELEASE_1_02: any other number is 1.2, 102 too. The caller says it,
@@ -76,14 +76,18 @@
  *   23 a tile's type    Of a composer: a selected tile that meets the window has another pixel type than was asked for;
  *                       the place is the first such entry's.
  *   24 no such number   There is no tile, dimension or attachment of the number asked for; they are counted from 0.
+ *   25 repack's buffer  Of czi_repack: the buffer is shorter than the new file.
  *   30 too long to list Of czi_list: the file has over 65,536 bytes.
  *   34 comma            Of czi_quote: there is a comma in the settings, wherever it stands. The place is the first
  *                       one's offset in the settings, not in the file.
  *   35 settings         Of czi_quote: the settings are not the lines that they have to be, or a pitch does not come to
  *                       1 to 65,535 nanometres.
+ *   36 repack too large Of czi_repack and czi_repack_size: the new file would have more than 8,192 segments or 2^40
+ *                       bytes.
  * Of czi_quote 20, 21 and 23 are as of a composer. The first that applies is given, in this order: 30; 34; 35; 1; for
  * each segment 4, 2, 3, 5; 6; 7; 8; 9; the sub-block directory entry by entry, each with its sub-block and its chunks;
- * the metadata segment; the attachment directory entry by entry; then 20 to 24. czi_refusal_words has a line for each.
+ * the metadata segment; the attachment directory entry by entry; then 20 to 24; 36; 25. czi_refusal_words has a line for
+ * each.
  *
  * Each function is proved to give exactly what its contract says (crates/czi/src; what the contracts cite is
  * in crates/czi/specs). host/tests/interface holds the declarations here against those there; what the words here say
@@ -354,6 +358,34 @@ uint32_t czi_quote(const uint8_t *file, size_t file_len, uint32_t release,
                    uint8_t *target, size_t target_len, uint8_t *map, size_t map_len,
                    uint8_t *sheet, size_t sheet_len,
                    uint64_t *place, uint64_t *covered, uint64_t *written);
+
+/* ---- Repacking: the same file written anew without its dead segments. Alive are the file segment, what it names (the
+ * sub-block directory, the metadata segment, the attachment directory), and what the entries of these two directories name;
+ * all other segments are dead, the DELETED ones among them.
+ *
+ * The new file has the file segment, the sub-block directory, the sub-block of each entry in the order of the directory,
+ * the metadata segment, the attachment directory and the attachment of each of its entries, in this order, and nothing
+ * else. A sub-block or an attachment that is listed twice is written twice. A metadata segment or an attachment directory
+ * that the file has not is not added. UsedSize is the length of the content, AllocatedSize the smallest multiple of 32
+ * that holds it; of the file segment both are 512. Positions are those in the new file. The format's version and the
+ * file's GUIDs are kept. Bytes without a meaning are zero: 23 to 27 of a tile's entry and 2 to 11 of an attachment's, in
+ * the copies too, what is left of a fixed part, and what pads a segment.
+ *
+ * So the new file is accepted under the same release, and has the same tiles, dimensions, masks, metadata and
+ * attachments; a composer gives the same plane and counts of it, or refuses with the same number. Only places differ.
+ * Repacked again it gives the same bytes.
+ *
+ * It may be longer than the old file: by what is listed twice, and where the old file segment had under 512 bytes. */
+
+/* How long the new file is, which is the least length of a buffer for it. 36 at place 0 where it would have more than
+ * 8,192 segments or 2^40 bytes. size is 0 where refused. */
+uint32_t czi_repack_size(const uint8_t *file, size_t file_len, uint32_t release, uint64_t *place, uint64_t *size);
+
+/* Writes the new file into a lent buffer. 36 as above, then 25 at place 0 where the buffer is shorter than the new file.
+ * What of out is past the new file stays, and all of it where refused.
+ * written is the length of the new file, 0 where refused. */
+uint32_t czi_repack(const uint8_t *file, size_t file_len, uint32_t release, uint8_t *out, size_t out_len,
+                    uint64_t *place, uint64_t *written);
 
 /* ---- Which tiles a question selects, and which of them share a pixel with its window: by the same definitions as the
  * composers. Masks do not enter.

@@ -35,9 +35,11 @@ static inline const char *czi_refusal_words(uint32_t number) {
     case 22: return "target, map, sheet or array too short";
     case 23: return "a selected tile that meets the window has another type";
     case 24: return "no entry of that number, counted from 0";
+    case 25: return "buffer shorter than the repacked file";
     case 30: return "listing only: input over 65536 bytes";
     case 34: return "a comma in the settings; the place is its offset in them";
     case 35: return "settings not as the rules say, or a pitch not 0.001 to 65.535 micrometres";
+    case 36: return "the repacked file would have more than 8192 segments or 2^40 bytes";
     default: return "there is no such refusal";
     }
 }
@@ -65,7 +67,7 @@ static inline void *czi_none(void) {
 }
 
 /* It goes wherever a pointer is asked for with a length of 0: a file, starts, settings, a target, a map, a sheet, marks,
- * arrays of records. */
+ * arrays of records, the buffer of a repack. */
 #ifdef __cplusplus
 struct czi_nothing {
     template <class T> operator T *() const { return static_cast<T *>(czi_none()); }

@@ -50,6 +50,10 @@ impl Arguments {
                     let value = arguments.take(&name, value, takes, &mut words)?;
                     arguments.options.push((name, value));
                 }
+                None if word.as_bytes().starts_with(b"-") && word != "-" => {
+                    let name = word.to_string_lossy();
+                    return usage(format!("there is no option {name} here"));
+                }
                 None => arguments.paths.push(word),
             }
         }

@@ -12,6 +12,7 @@ usage: czi judge FILE      is the file accepted?
        czi count FILE      how many pixels of a window are covered
        czi compose FILE    a plane of the file and its coverage map
        czi quote FILE ..   a quote sheet: the covered pixels, and their area
+       czi repack FILE ..  the file written anew without its dead segments
        czi extract FILE .. the very bytes of a part of the file
        czi list FILE       the listing of a file of at most 65536 bytes
        czi sample OUT.czi  writes a small mosaic to try these with
@@ -26,9 +27,10 @@ with a FILE takes. A value follows its option as the next word or behind =, and
 what follows a single -- is no option.
 
 A file that is there is replaced only with --force, never where its mode has no
-write bit, and never where it is the file that is read. Files are written under
-temporary names and then put in place, all or none: where the run fails, or is
-ended by SIGINT, SIGTERM, SIGHUP or SIGQUIT, what was there stands as it was.
+write bit, where it is another user's in a sticky folder, or where it is the file
+that is read. Files are written under temporary names and then put in place, all
+or none: where the run fails, or is ended by SIGINT, SIGTERM, SIGHUP or SIGQUIT,
+what was there stands as it was.
 (SIGKILL may leave files named .czi-PID-N.part or .old in the output's folder.)
 A file that is changed while it is read gives no answer.
 
@@ -264,9 +266,53 @@ areas of its parts add up to its own. A sheet that was there stays where the run
 is refused: look at the exit code. docs/QUOTE.md says more.
 ";
 
+const REPACK: &str = "\
+usage: czi repack FILE --out NEW [--force] [--json] [--release 1.02|1.2]
+
+Writes the file anew without its dead segments, which are those that are DELETED
+and those that the file's directories name no more. The new file has the same
+tiles, masks, metadata and attachments, and every plane and count of it is the
+same; only places in the file differ. Repacked again it stays as it is. FILE
+itself is not touched.
+
+What the format does not name is not kept: unused room, bytes of a kept segment
+behind the parts that the format names, even within UsedSize, and reserved fields,
+which become zero. A vendor's private data there are lost. Nor can what was
+deleted be got back from NEW: keep FILE if it may be wanted.
+
+  --out NEW          the new file; - is standard output. (`> FILE` empties FILE
+                     before czi starts: give another name there)
+  --force            replaces a file that is there, but never FILE, where it is
+                     given by name or as < FILE; what comes through a pipe has no
+                     name
+  --json             says the same as one object, but for notes
+~
+
+The release decides only whether FILE is accepted; NEW has the same bytes under
+either release that accepts it.
+
+Prints bytes_before= and bytes_after=, segments_before= and segments_after=,
+segments_dropped= (how many of FILE's are in NEW no more), segments_repeated= (how
+many of NEW's segments are second or further copies, of what FILE lists more than
+once; after = before - dropped + repeated), note: for what may surprise, and
+release=; with --out - on standard error. The notes:
+  - a segment that is listed more than once is written as often
+  - the new file is longer: by what is repeated, or since the file segment of FILE
+    was shorter than 512 bytes, or both; it is said which
+  - the file was clean: the new one has the same bytes
+  - nothing was dropped, and the bytes differ: segments stand in another order, or
+    bytes without a meaning were cleared or left out
+
+It takes as much memory as NEW has bytes. Before NEW gets its name it is read back
+from the disk, held against what was to be written, and judged, and FILE is looked
+at once more: where NEW fails that, or FILE was changed, nothing is left, and the
+exit code is 1. A FILE of more than 8192 segments, the dead ones too, is refused
+as 4 before it is repacked; a NEW of more than 8192 segments or 2^40 bytes as 36.
+";
+
 /// The commands.
-pub const COMMANDS: [&str; 9] = [
-    "judge", "info", "tiles", "count", "compose", "quote", "extract", "list", "sample",
+pub const COMMANDS: [&str; 10] = [
+    "judge", "info", "tiles", "count", "compose", "quote", "repack", "extract", "list", "sample",
 ];
 
 /// What to do about 17 and 18. The older release is no way round them.
@@ -274,7 +320,7 @@ const REWRITE_MASKS: &str = "whoever wrote the masks writes them again; only a f
     archived under release 1.02 is judged by it, and the masks of any other would be forgotten";
 
 /// What to do about each refusal.
-const ADVICE: [(u32, &str); 26] = [
+const ADVICE: [(u32, &str); 28] = [
     (1, "cut in copying, or no CZI file: copy it again"),
     (
         2,
@@ -283,7 +329,7 @@ const ADVICE: [(u32, &str); 26] = [
     (3, "mostly a file that was cut: copy it again"),
     (
         4,
-        "save it anew, so that deleted segments go, or in several files",
+        "save it anew, so that deleted segments go, or in several files; a repack judges the file first and can't help",
     ),
     (5, "no CZI file, or two were joined"),
     (6, "save it anew in version 1 of the format"),
@@ -322,6 +368,10 @@ const ADVICE: [(u32, &str); 26] = [
         "name the type of that tile, or select one kind of tiles, mostly by --start C=N, or by --window where they lie apart",
     ),
     (24, "czi info and czi tiles say how many there are"),
+    (
+        25,
+        "of repack: lend czi_repack_size bytes; the command never gives it",
+    ),
     (30, "czi info has the same figures"),
     (
         34,
@@ -330,6 +380,10 @@ const ADVICE: [(u32, &str); 26] = [
     (
         35,
         "of quote: mend the settings where line and column are said; czi help quote shows such a file",
+    ),
+    (
+        36,
+        "of repack: what the file lists more than once would be written as often (or it is within 416 bytes of 2^40); it is sound: work on with it as it is, or save it anew",
     ),
 ];
 
@@ -382,6 +436,7 @@ pub fn text(command: Option<&str>) -> Option<String> {
         Some("count") => COUNT,
         Some("compose") => COMPOSE,
         Some("quote") => QUOTE,
+        Some("repack") => REPACK,
         Some("extract") => EXTRACT,
         Some("sample") => SAMPLE,
         Some("refusals") => return Some(refusals()),

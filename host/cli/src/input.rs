@@ -88,10 +88,23 @@ impl Input {
         mut self,
         work: impl FnOnce(&[u8]) -> Result<T, Failure>,
     ) -> Result<T, Failure> {
+        self.lending(work)
+    }
+
+    /// The same; the file may be looked at once more afterwards.
+    pub fn lending<T>(
+        &mut self,
+        work: impl FnOnce(&[u8]) -> Result<T, Failure>,
+    ) -> Result<T, Failure> {
         let lent = self.lend()?;
         let answer = work(&lent);
-        self.unchanged()?;
+        self.unchanged("it was changed while it was read")?;
         answer
+    }
+
+    /// Fails where the file is no more as it was at the start.
+    pub fn looked_at_again(&self) -> Result<(), Failure> {
+        self.unchanged("it was changed before the new file was in place")
     }
 
     /// All of its bytes, in memory. Where there are more than so many they are not
@@ -100,7 +113,7 @@ impl Input {
         let mut bytes = memory::room(most + 1)?;
         let read = (&mut self.file).take(most + 1).read_to_end(&mut bytes);
         read.map_err(|error| Failure::of(&self.path, error))?;
-        self.unchanged()?;
+        self.unchanged("it was changed while it was read")?;
         match bytes.len() as u64 > most {
             true => {
                 let what = format!("it is over {most} bytes long, and {wanted}");
@@ -129,7 +142,7 @@ impl Input {
     }
 
     /// Compares the open file, and the one of that name, with the start.
-    fn unchanged(&self) -> Result<(), Failure> {
+    fn unchanged(&self, otherwise: &str) -> Result<(), Failure> {
         let Some(before) = self.before else {
             return Ok(());
         };
@@ -141,7 +154,7 @@ impl Input {
         let same = |about: Metadata| State::of(&about) == before;
         match open.is_ok_and(same) && named.is_ok_and(same) {
             true => Ok(()),
-            false => Err(Failure::of(&self.path, "it was changed while it was read")),
+            false => Err(Failure::of(&self.path, otherwise)),
         }
     }
 }

@@ -1,4 +1,5 @@
-//! The command `czi`: judges, lists, counts, composes and quotes CZI microscope files.
+//! The command `czi`: judges, lists, counts, composes, quotes and repacks CZI microscope
+//! files.
 //!
 //! Exit codes: 0 done; 2 refused, with the number, its place and its words in
 //! one line on standard error; 1 for a bad argument, a file that can't
@@ -28,6 +29,7 @@ mod quote;
 mod records;
 mod refused;
 mod release;
+mod repack;
 mod sample;
 mod settings;
 mod staged;
@@ -98,6 +100,7 @@ fn run_command(name: &str, words: Vec<OsString>) -> Result<Answer, Failure> {
         "count" => count::run(words),
         "compose" => compose::run(words),
         "quote" => quote::run(words),
+        "repack" => repack::run(words),
         "extract" => extract::run(words),
         "sample" => sample::run(words),
         _ => Err(Failure::Usage(format!("there is no command {name:?}"))),

@@ -2,11 +2,11 @@
 
 use crate::failure::Failure;
 use crate::identity::Identity;
-use crate::streams;
+use crate::{streams, system};
 use std::fs::{self, Metadata, OpenOptions};
 use std::io::ErrorKind;
 use std::os::unix::ffi::OsStrExt;
-use std::os::unix::fs::PermissionsExt;
+use std::os::unix::fs::{MetadataExt, PermissionsExt};
 use std::path::{Path, PathBuf};
 
 /// A file to be written.
@@ -33,7 +33,9 @@ pub fn look(paths: &[&Path], force: bool, read: &[Identity]) -> Result<Vec<Outpu
     let old = |output: &Output| output.old.iter().copied().collect::<Vec<_>>();
     for (k, output) in outputs.iter().enumerate() {
         if output.old.is_some_and(|id| read.contains(&id)) {
-            return Err(Failure::of(&output.given, "it is the file that is read"));
+            let what = "it is the file that is read, which is never replaced; give the output \
+                        another name";
+            return Err(Failure::of(&output.given, what));
         }
         let same = |o: &Output| o.place == output.place || o.old.is_some() && o.old == output.old;
         if outputs[..k].iter().any(same) {
@@ -62,14 +64,23 @@ impl Output {
         match fs::metadata(path) {
             Ok(about) => {
                 may_be_replaced(&about, force).map_err(other)?;
+                let place = fs::canonicalize(path).map_err(failed)?;
                 if force {
                     // Who may not write it does not replace it either.
                     let written = OpenOptions::new().write(true).open(path);
                     drop(written.map_err(failed)?);
                 }
+                let folder = place.parent().unwrap_or(Path::new("/"));
+                let folder = fs::metadata(folder).map_err(failed)?;
+                let owners = [about.uid(), folder.uid()];
+                if is_held(folder.mode(), owners, system::user()) {
+                    let what = "it is another user's in a sticky folder, where only its owner \
+                                may replace it";
+                    return Err(other(what));
+                }
                 Ok(Output {
                     given: path.to_path_buf(),
-                    place: fs::canonicalize(path).map_err(failed)?,
+                    place,
                     old: Some(Identity::of(&about)),
                     mode: about.permissions().mode() & 0o777,
                 })
@@ -103,6 +114,12 @@ fn may_be_replaced(about: &Metadata, force: bool) -> Result<(), &'static str> {
     }
 }
 
+/// In a sticky folder, as /tmp is, only root and the owners of the file and of the folder
+/// rename or remove it: others could not undo what they began there.
+fn is_held(folder_mode: u32, owners: [u32; 2], user: u32) -> bool {
+    folder_mode & 0o1000 != 0 && user != 0 && !owners.contains(&user)
+}
+
 /// Where a new file comes to stand.
 fn place_of_new(path: &Path) -> std::io::Result<PathBuf> {
     let folder = match path.parent() {
@@ -111,4 +128,22 @@ fn place_of_new(path: &Path) -> std::io::Result<PathBuf> {
     };
     let name = path.file_name().unwrap_or_default();
     Ok(fs::canonicalize(folder)?.join(name))
+}
+
+#[cfg(test)]
+mod tests {
+    use super::*;
+
+    #[test]
+    fn a_sticky_folder_holds_what_is_of_others() {
+        assert!(is_held(0o41777, [7, 0], 8));
+        for (mode, owners, user) in [
+            (0o40777, [7, 0], 8),
+            (0o41777, [8, 0], 8),
+            (0o41777, [7, 8], 8),
+            (0o41777, [7, 8], 0),
+        ] {
+            assert!(!is_held(mode, owners, user), "{mode:o} {owners:?} {user}");
+        }
+    }
 }

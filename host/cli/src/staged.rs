@@ -7,7 +7,7 @@
 use crate::failure::Failure;
 use crate::identity::Identity;
 use crate::outputs::Output;
-use crate::system::{undisturbed, Name, Undo};
+use crate::system::{self, undisturbed, Name, Undo};
 use std::fs::{self, File, Permissions};
 use std::io::{self, ErrorKind, Write};
 use std::os::unix::fs::PermissionsExt;
@@ -57,6 +57,17 @@ fn beside<T>(
     Err(ErrorKind::AlreadyExists.into())
 }
 
+/// The error, which names a second name that could not be removed.
+fn left_behind(error: io::Error, second: &Path) -> io::Error {
+    match fs::symlink_metadata(second) {
+        Ok(_) => {
+            let name = second.display();
+            io::Error::other(format!("{error}; its second name {name} can't be removed"))
+        }
+        Err(_) => error,
+    }
+}
+
 impl Staged {
     /// Begins a file, empty and with the mode of the one that it replaces.
     pub fn begin(output: &Output) -> Result<Staged, Failure> {
@@ -86,6 +97,20 @@ impl Staged {
     pub fn write(&mut self, bytes: &[u8]) -> Result<(), Failure> {
         let written = self.file.write_all(bytes);
         written.map_err(|error| Failure::of(&self.output.given, error))
+    }
+
+    /// Lends what was written, read back from the disk where the system can let go of
+    /// what it holds of it in memory.
+    pub fn read_back<T>(
+        &self,
+        work: impl FnOnce(&[u8]) -> Result<T, Failure>,
+    ) -> Result<T, Failure> {
+        let given = &self.output.given;
+        self.sync()?;
+        system::let_go(&self.file);
+        let cut = Failure::of(given, "what was written can't be read back");
+        let mapping = system::map(&self.file, &cut.line());
+        work(&mapping.map_err(|error| Failure::of(given, error))?)
     }
 
     /// Waits until all is on the disk.
@@ -155,7 +180,10 @@ impl Placed {
         };
         let (second, undo) = match beside(place, "old", second_name) {
             Ok((second, (name, undo))) => {
-                fs::rename(&file.beside, place)?;
+                if let Err(error) = fs::rename(&file.beside, place) {
+                    drop(undo);
+                    return Err(left_behind(error, &second));
+                }
                 undo.keep();
                 (second, Undo::rename(name, file.place)?)
             }
@@ -198,9 +226,13 @@ impl Drop for Placed {
 }
 
 #[cfg(test)]
-mod tests {
+pub mod tests {
     use super::*;
     use crate::outputs::look;
+    use std::sync::Mutex;
+
+    /// Who stages files in a test holds it, since the table is for one thread.
+    pub static ALONE: Mutex<()> = Mutex::new(());
 
     /// As on a disk without second names.
     fn no_link(_: &Path, _: &Path) -> io::Result<()> {
@@ -239,11 +271,23 @@ mod tests {
         left.join(" ")
     }
 
-    /// One test, since the table is for one thread.
     #[test]
     fn all_or_none_with_second_names_and_without() {
+        let _alone = ALONE.lock();
         everything_is_kept_or_taken_back();
         what_came_meanwhile_stays();
+    }
+
+    #[test]
+    fn a_second_name_that_stays_is_named() {
+        let failed = || io::Error::other("failed");
+        let (here, none) = (std::env::temp_dir(), Path::new("/none/at all"));
+        assert_eq!(left_behind(failed(), none).to_string(), "failed");
+        let words = format!(
+            "failed; its second name {} can't be removed",
+            here.display()
+        );
+        assert_eq!(left_behind(failed(), &here).to_string(), words);
     }
 
     fn everything_is_kept_or_taken_back() {

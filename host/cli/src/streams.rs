@@ -73,7 +73,8 @@ pub fn apart_from(files: &[Identity]) -> Result<(), Failure> {
     }
     match hits(output()) {
         true => Err(failure(
-            "standard output goes into a file that is read or replaced",
+            "standard output goes into a file that is read or replaced; with > the shell has \
+             already emptied it",
         )),
         false => Ok(()),
     }

@@ -11,6 +11,7 @@ use std::alloc::{GlobalAlloc, Layout, System};
 use std::ffi::{c_char, c_int, c_void, CStr, CString};
 use std::fs::File;
 use std::io;
+use std::os::fd::AsRawFd;
 use std::os::unix::ffi::OsStrExt;
 use std::path::Path;
 use std::ptr::{null, null_mut};
@@ -33,6 +34,7 @@ const SIG_BLOCK: c_int = 0;
 const SIG_SETMASK: c_int = 2;
 const SA_ONSTACK: c_int = 0x0800_0000;
 const F_GETFD: c_int = 1;
+const POSIX_FADV_DONTNEED: c_int = 4;
 
 /// sigset_t of Linux.
 type Signals = [u64; 16];
@@ -62,10 +64,12 @@ extern "C" {
     fn pthread_sigmask(how: c_int, new: *const Signals, old: *mut Signals) -> c_int;
     fn raise(signal: c_int) -> c_int;
     fn pause() -> c_int;
+    fn geteuid() -> u32;
     fn unlink(path: *const c_char) -> c_int;
     fn rename(old: *const c_char, new: *const c_char) -> c_int;
     fn write(file: c_int, bytes: *const c_void, length: usize) -> isize;
     fn fcntl(file: c_int, command: c_int, ...) -> c_int;
+    fn posix_fadvise(file: c_int, start: i64, length: i64, advice: c_int) -> c_int;
     fn _exit(code: c_int) -> !;
 }
 
@@ -105,6 +109,12 @@ static OPEN: [AtomicBool; 3] = [const { AtomicBool::new(false) }; 3];
 /// Was standard input (0), output (1) or error (2) open when the run began?
 pub fn was_open(stream: usize) -> bool {
     OPEN[stream].load(SeqCst)
+}
+
+/// As which user the run goes.
+pub fn user() -> u32 {
+    // SAFETY: takes nothing, and never fails.
+    unsafe { geteuid() }
 }
 
 // ---- What is undone.
@@ -366,4 +376,11 @@ pub fn map(file: &File, line: &str) -> io::Result<czi::Mapping> {
     // SAFETY: SIGBUS ends the run, and what was read of a changed file is not
     // given out.
     unsafe { czi::map_file(file) }
+}
+
+/// Lets go of what the system holds of a synced file in memory, so that it is read from
+/// the disk. A wish: not every disk grants it.
+pub fn let_go(file: &File) {
+    // SAFETY: asks about a file that is open, for its whole length.
+    unsafe { posix_fadvise(file.as_raw_fd(), 0, 0, POSIX_FADV_DONTNEED) };
 }

@@ -106,7 +106,8 @@ fn reads_a_pipe(name: &str) {
 #[test]
 fn help_is_there_for_each_command() {
     for command in [
-        "list", "info", "judge", "tiles", "count", "compose", "quote", "extract", "sample",
+        "list", "info", "judge", "tiles", "count", "compose", "quote", "repack", "extract",
+        "sample",
     ] {
         let (code, out, err) = said(&czi(&[command, "--help"]));
         assert_eq!((code, err.as_str()), (0, ""));
@@ -117,13 +118,17 @@ fn help_is_there_for_each_command() {
     }
     let (code, refusals, _) = said(&czi(&["help", "refusals"]));
     assert!(code == 0 && refusals.lines().all(|line| line.len() <= 82));
-    for number in (1..=24).filter(|number| *number != 19).chain([30, 34, 35]) {
+    let numbers = (1..=25).filter(|number| *number != 19);
+    for number in numbers.chain([30, 34, 35, 36]) {
         assert!(refusals.contains(&format!("\n{number:>2}  ")), "{number}");
     }
     fails(&["help", "paint"], 1, "there is no command \"paint\"");
     // What is wrong with an argument names the help about its command.
     let named = "--what here (czi help count says how it is called)";
     fails(&["count", "a", "--what"], 1, named);
+    let named = "there is no option -w here (czi help judge says how it is called)";
+    fails(&["judge", "-w"], 1, named);
+    fails(&["judge", "--", "-w"], 1, "-w: No such file");
     fails(&["sample"], 1, "(czi help sample says how it is called)");
     fails(&["paint"], 1, "(czi help says how it is called)");
     fails(&["refusals", "a"], 1, "there is no command \"refusals\"");

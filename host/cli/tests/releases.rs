@@ -162,7 +162,7 @@ fn help_says_when_1_02_is_to_be_chosen() {
                  masks of any other would be forgotten";
     assert_eq!(refusals.matches(words).count(), 2, "{refusals}");
     for command in [
-        "judge", "list", "info", "tiles", "count", "compose", "extract",
+        "judge", "list", "info", "tiles", "count", "compose", "repack", "extract",
     ] {
         let text = help(command);
         let words = "Choose it for a file that was archived under 1.02 and for no other";
@@ -177,7 +177,9 @@ fn another_release_is_not_taken() {
     let extract = ["extract", &file, "--xml", "--out", &out];
     let commands = ["judge", "list", "info", "tiles", "count", "compose"];
     let commands = commands.map(|command| vec![command, &file]);
-    for command in commands.iter().map(Vec::as_slice).chain([&extract[..]]) {
+    let repack = ["repack", &file, "--out", &out];
+    let others = [&extract[..], &repack];
+    for command in commands.iter().map(Vec::as_slice).chain(others) {
         let with = |more: &[&'static str]| [command, more].concat();
         for word in [
             "", "1.20", "1,02", "1,2", "1.02 ", " 1.2", "1.0", "1", "2", "01.2", "1.2.0", "v1.2",

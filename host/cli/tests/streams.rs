@@ -23,6 +23,7 @@ fn a_full_or_closed_standard_output_is_a_failure() {
             "compose \"$1\"",
             "compose \"$1\" --map -",
             "extract \"$1\" --xml --out -",
+            "repack \"$1\" --out -",
             "sample -",
             "--help",
             "--version",
@@ -52,6 +53,13 @@ fn outputs_are_taken_back_where_the_lines_cannot_be_said() {
         assert_eq!(said(&output).0, 1, "{to}");
         let output = shell(&format!("czi sample \"$3\" {to}"), &arguments);
         assert_eq!(said(&output).0, 1, "{to}");
+        for line in [
+            "czi repack \"$1\" --out \"$2\" --force",
+            "czi repack \"$1\" --out \"$3\"",
+        ] {
+            let output = shell(&format!("{line} {to}"), &arguments);
+            assert_eq!(said(&output).0, 1, "{to}");
+        }
         assert_eq!(folder.names(), ["out"], "{to}");
         assert_eq!(folder.read("out"), b"old", "{to}");
     }
@@ -88,7 +96,13 @@ fn a_full_or_closed_standard_error_keeps_the_exit_code() {
 
 #[test]
 fn a_closed_standard_input_is_no_empty_file() {
-    for command in ["judge", "list", "count", "compose"] {
+    for command in [
+        "judge",
+        "list",
+        "count",
+        "compose",
+        "repack --out ./new.czi",
+    ] {
         let output = shell(&format!("czi {command} - <&-"), &[]);
         is_failure(&output, 1, "standard input is closed");
     }
@@ -140,6 +154,8 @@ fn too_little_memory_is_one_line() {
         ("tiles \"$4\" --json", 12),
         ("info \"$4\"", 12),
         ("extract - --xml --out \"$2\" <\"$1\"", 12),
+        ("repack \"$4\" --out \"$2\"", 20),
+        ("repack - --out - <\"$4\"", 20),
     ] {
         for step in 0..steps {
             let output = limited(least + step * step * 16, words);

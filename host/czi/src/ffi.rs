@@ -201,6 +201,22 @@ extern "C" {
         covered: *mut u64,
         written: *mut u64,
     ) -> u32;
+    pub fn czi_repack_size(
+        file: *const u8,
+        file_len: usize,
+        release: u32,
+        place: *mut u64,
+        size: *mut u64,
+    ) -> u32;
+    pub fn czi_repack(
+        file: *const u8,
+        file_len: usize,
+        release: u32,
+        out: *mut u8,
+        out_len: usize,
+        place: *mut u64,
+        written: *mut u64,
+    ) -> u32;
     pub fn czi_chosen(
         file: *const u8,
         file_len: usize,

@@ -1,5 +1,6 @@
 //! The proved CZI library for Rust: judges a file, hands out its parts and
-//! records, lists it, composes planes of it, and writes quote sheets.
+//! records, lists it, composes planes of it, writes quote sheets, and repacks it
+//! without its dead segments.
 //!
 //! A file is lent as its bytes. Any bytes and any number get an answer; nothing
 //! has to be checked before a call, and no call changes a byte of the file or
@@ -36,6 +37,7 @@ mod compose;
 #[allow(unsafe_code)]
 mod ffi;
 mod mapping;
+mod memory;
 mod pixel;
 mod plane;
 mod question;
@@ -43,6 +45,7 @@ mod quote;
 mod reader;
 mod records;
 mod refusal;
+mod repack;
 mod scan;
 mod tiles;
 
@@ -57,6 +60,7 @@ pub use calls::Counted;
 pub use chosen::{chosen, Chosen, Mark};
 pub use compose::{compose_plain, compose_quick};
 pub use mapping::{map, map_file, read, Mapping};
+pub use memory::NotMade;
 pub use pixel::PixelType;
 pub use plane::{compose, NoPlane, Plane};
 pub use question::{Masks, Question, Scene};
@@ -67,5 +71,6 @@ pub use reader::{
 };
 pub use records::{Dimension, Edges, Extent, Mask, Summary, Tile};
 pub use refusal::{Reason, Refusal};
+pub use repack::{repack, repack_size, repacked};
 pub use scan::{Release, Scan};
 pub use tiles::{all_records, dimensions, tiles, Record, Records, Tiles};

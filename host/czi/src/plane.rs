@@ -1,10 +1,10 @@
 //! A plane with memory of its own.
 
 use crate::compose::compose_quick;
+use crate::memory::{zeros, NotMade};
 use crate::question::Question;
-use crate::refusal::{Reason, Refusal};
+use crate::refusal::Reason;
 use crate::scan::Scan;
-use std::fmt;
 
 /// A composed plane.
 #[derive(Clone, Debug, PartialEq, Eq)]
@@ -45,30 +45,7 @@ impl Plane {
 }
 
 /// Why there is no plane.
-#[derive(Clone, Copy, Debug, PartialEq, Eq)]
-pub enum NoPlane {
-    /// The question or the file was refused.
-    Refused(Refusal),
-    /// There is no memory for so many bytes.
-    Memory(u64),
-}
-
-impl From<Refusal> for NoPlane {
-    fn from(refusal: Refusal) -> NoPlane {
-        NoPlane::Refused(refusal)
-    }
-}
-
-impl fmt::Display for NoPlane {
-    fn fmt(&self, f: &mut fmt::Formatter<'_>) -> fmt::Result {
-        match self {
-            NoPlane::Refused(refusal) => refusal.fmt(f),
-            NoPlane::Memory(bytes) => write!(f, "there is no memory for {bytes} bytes"),
-        }
-    }
-}
-
-impl std::error::Error for NoPlane {}
+pub type NoPlane = NotMade;
 
 /// Composes a plane into memory that it takes for it, by the quick composer.
 ///
@@ -81,8 +58,8 @@ pub fn compose<'a>(scan: impl Into<Scan<'a>>, question: &Question) -> Result<Pla
         Err(refusal) if refusal.reason != Reason::Lent => return Err(refusal.into()),
         _ => {}
     }
-    let mut target = memory(question.target_length())?;
-    let mut map = memory(question.map_length())?;
+    let mut target = zeros(question.target_length())?;
+    let mut map = zeros(question.map_length())?;
     let counted = compose_quick(scan, question, &mut target, &mut map)?;
     Ok(Plane {
         width: question.width,
@@ -92,14 +69,4 @@ pub fn compose<'a>(scan: impl Into<Scan<'a>>, question: &Question) -> Result<Pla
         map,
         covered: counted.covered,
     })
-}
-
-/// So many zero bytes.
-fn memory(length: u64) -> Result<Vec<u8>, NoPlane> {
-    let short = NoPlane::Memory(length);
-    let length = usize::try_from(length).map_err(|_| short)?;
-    let mut bytes = Vec::new();
-    bytes.try_reserve_exact(length).map_err(|_| short)?;
-    bytes.resize(length, 0);
-    Ok(bytes)
 }

@@ -64,9 +64,11 @@ reasons! {
     Lent 22 "target, map, sheet or array too short"
     AnotherType 23 "a selected tile that meets the window has another type"
     NoEntry 24 "no entry of that number, counted from 0"
+    RepackBuffer 25 "buffer shorter than the repacked file"
     TooLong 30 "listing only: input over 65536 bytes"
     Comma 34 "a comma in the settings; the place is its offset in them"
     Settings 35 "settings not as the rules say, or a pitch not 0.001 to 65.535 micrometres"
+    RepackSize 36 "the repacked file would have more than 8192 segments or 2^40 bytes"
 }
 
 /// Why something was refused, and where.
@@ -109,8 +111,8 @@ mod tests {
         }
         let other = |n: &u32| matches!(Reason::of_number(*n), Reason::Other(_));
         assert_eq!(
-            (1..=35).filter(other).collect::<Vec<_>>(),
-            [19, 25, 26, 27, 28, 29, 31, 32, 33]
+            (1..=36).filter(other).collect::<Vec<_>>(),
+            [19, 26, 27, 28, 29, 31, 32, 33]
         );
     }
 }

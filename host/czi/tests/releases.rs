@@ -62,7 +62,7 @@ fn every_function_judges_by_the_release() {
     let refusal = czi::judge(&file).unwrap_err();
     let question = Question::default().window(0, 0, 12, 1).masks(Masks::On);
     type Asked = fn(Scan, &Question) -> Result<(), Refusal>;
-    let all: [(&str, Asked); 17] = [
+    let all: [(&str, Asked); 19] = [
         ("tile", |scan, _| czi::tile(scan, 1).map(drop)),
         ("tiles", |scan, _| czi::tiles(scan).map(drop)),
         ("records", |scan, _| czi::all_records(scan).map(drop)),
@@ -87,6 +87,10 @@ fn every_function_judges_by_the_release() {
         }),
         ("quick", |scan, q| {
             czi::compose_quick(scan, q, &mut [0; 12], &mut [0; 2]).map(drop)
+        }),
+        ("repack's size", |scan, _| czi::repack_size(scan).map(drop)),
+        ("repack", |scan, _| {
+            czi::repack(scan, &mut [0; 4096]).map(drop)
         }),
     ];
     for (name, asked) in all {

@@ -1,5 +1,5 @@
-"""The proved CZI library for Python 3: judges a file, hands out its parts and records, composes planes of it, and writes quote
-sheets.
+"""The proved CZI library for Python 3: judges a file, hands out its parts and records, composes planes of it, writes quote
+sheets, and repacks it without its dead segments.
 
 A file is lent as its bytes: bytes, a bytearray, a memoryview, an mmap or a numpy array. It is not copied, and no call
 changes a byte of it. Any bytes and any number get an answer: what is refused raises Refused, with the number, the place and
@@ -15,6 +15,7 @@ never raised. "1.02" is for a file that was archived under it and no other, whos
     print(czi.count(file, masks=True).covered)
     print(czi.count(file, masks=True, release="1.02").covered)
     print(czi.quote(file, "edition=2\\npitch_x=0.325\\npitch_y=0.325\\n", scene="any").area_nm2)
+    print(len(file), len(czi.repack(file)))
 
 While a call runs nobody may change what it was lent, another thread or program neither: a mapped file that is cut meanwhile
 ends the program by SIGBUS.
@@ -29,10 +30,11 @@ from .reader import (all_records, attachment, attachment_data, attachments, comm
                      listing, summary, tile, tile_attachment, tile_metadata, tile_pixels, tiles)
 from .records import Attachment, Box, Chosen, Dimension, Extent, Mark, Mask, Record, Summary, Tile
 from .refusal import Refused
+from .repacking import repack, repack_size
 
 __all__ = [
     "Attachment", "Box", "Chosen", "Count", "Dimension", "Extent", "Mark", "Mask", "PixelType", "Plane", "Quote", "Record",
     "Refused", "Summary", "Tile", "VERSION", "all_records", "attachment", "attachment_data", "attachments", "chosen",
     "common_attachment", "common_xml", "compose", "count", "dimensions", "judge", "listing", "pixel_bytes",
-    "quote", "summary", "tile", "tile_attachment", "tile_metadata", "tile_pixels", "tiles",
+    "quote", "repack", "repack_size", "summary", "tile", "tile_attachment", "tile_metadata", "tile_pixels", "tiles",
 ]

@@ -58,6 +58,8 @@ SIGNATURES = {
     "czi_compose_plain": (c_uint32, _COMPOSER),
     "czi_compose_quick": (c_uint32, _COMPOSER),
     "czi_quote": (c_uint32, _QUOTE),
+    "czi_repack_size": (c_uint32, [*_FILE, _U64, _U64]),
+    "czi_repack": (c_uint32, [*_FILE, *_LENT, _U64, _U64]),
     "czi_chosen": (c_uint32, [*_FILE, *_LENT, c_uint32, c_int32, c_int32, c_uint32, c_uint32, *_LENT, *_PART]),
 }
 

@@ -27,9 +27,11 @@ WORDS = {
     22: "target, map, sheet or array too short",
     23: "a selected tile that meets the window has another type",
     24: "no entry of that number, counted from 0",
+    25: "buffer shorter than the repacked file",
     30: "listing only: input over 65536 bytes",
     34: "a comma in the settings; the place is its offset in them",
     35: "settings not as the rules say, or a pitch not 0.001 to 65.535 micrometres",
+    36: "the repacked file would have more than 8192 segments or 2^40 bytes",
 }
 
 

@@ -12,7 +12,7 @@ from test_samples import refusal_of
 
 # What takes a file, a file and the number of an entry, and a file and settings.
 OF_FILES = [czi.judge, czi.listing, czi.summary, czi.tiles, czi.all_records, czi.attachments, czi.common_xml,
-            czi.common_attachment, czi.chosen, czi.compose, czi.count]
+            czi.common_attachment, czi.chosen, czi.compose, czi.count, czi.repack, czi.repack_size]
 OF_ENTRIES = [czi.tile, czi.dimensions, czi.tile_pixels, czi.tile_metadata, czi.tile_attachment, czi.attachment,
               czi.attachment_data]
 OF_SETTINGS = [czi.quote]

@@ -40,7 +40,7 @@ class Samples(unittest.TestCase):
             if said.get("refused", "30") != "30":
                 wanted = int(said["refused"]), int(said["place"])
                 for call in (czi.judge, czi.summary, czi.tiles, czi.all_records, czi.attachments, czi.common_xml, czi.chosen,
-                             czi.compose, czi.count):
+                             czi.compose, czi.count, czi.repack, czi.repack_size):
                     self.assertEqual(refusal_of(call, file), wanted, (name, call))
                 for call in (czi.tile, czi.dimensions, czi.tile_pixels, czi.attachment, czi.attachment_data):
                     self.assertEqual(refusal_of(call, file, 0), wanted, (name, call))

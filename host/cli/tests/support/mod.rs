@@ -85,6 +85,14 @@ impl Folder {
         path
     }
 
+    /// A file that begins so, and has zeros to that length, which take no room.
+    pub fn write_sparse(&self, name: &str, (length, bytes): (u64, Vec<u8>)) -> String {
+        let path = self.write(name, &bytes);
+        let file = fs::OpenOptions::new().write(true).open(&path);
+        file.and_then(|file| file.set_len(length)).expect("a file");
+        path
+    }
+
     pub fn read(&self, name: &str) -> Vec<u8> {
         fs::read(self.0.join(name)).expect(name)
     }

@@ -68,6 +68,44 @@ pub fn mosaic(tiles: &[Tile]) -> Vec<u8> {
     bytes
 }
 
+/// A file with one tile of gray8 and one attachment without data, each listed so often.
+/// Answers its length, and its bytes up to the tile's pixels, which are the rest and zeros.
+pub fn crowded(tile: &Tile, tiles: usize, attachments: usize) -> (u64, Vec<u8>) {
+    let long = |number: usize| (number as i64).to_le_bytes();
+    let mut file = vec![0; 96];
+    let mut bytes = segment("ZISRAWFILE", &file);
+    let mut listed = vec![0; 128];
+    put(&mut listed, 0, b"A1");
+    put(&mut listed, 12, &long(bytes.len()));
+    let mut attached = vec![0; 256];
+    put(&mut attached, 16, &listed);
+    bytes.extend(segment("ZISRAWATTACH", &attached));
+    let mut directory = vec![0; 256];
+    put(&mut directory, 0, &(attachments as i32).to_le_bytes());
+    directory.extend(listed.repeat(attachments));
+    put(&mut file, 72, &long(bytes.len()));
+    bytes.extend(segment("ZISRAWATTDIR", &directory));
+    put(&mut file, 52, &long(bytes.len()));
+    let mut directory = vec![0; 128];
+    put(&mut directory, 0, &(tiles as i32).to_le_bytes());
+    let behind = bytes.len() + 32 + (128 + tiles * entry(tile, 0).len()).next_multiple_of(32);
+    let entry = entry(tile, behind);
+    directory.extend(entry.repeat(tiles));
+    bytes.extend(segment("ZISRAWDIRECTORY", &directory));
+    let pixels = tile.width as usize * tile.height as usize;
+    let mut block = vec![0; 256];
+    put(&mut block, 8, &long(pixels));
+    put(&mut block, 16, &entry);
+    let mut block = segment("ZISRAWSUBBLOCK", &block);
+    let allocated = (256 + pixels).next_multiple_of(32);
+    put(&mut block, 16, &long(allocated));
+    put(&mut block, 24, &long(256 + pixels));
+    bytes.extend(block);
+    put(&mut file, 0, &1_i32.to_le_bytes());
+    put(&mut bytes, 32, &file);
+    ((behind + 32 + allocated) as u64, bytes)
+}
+
 /// A tile of gray8 in scene 0.
 pub fn gray8(left: i32, top: i32, width: i32, height: i32) -> Tile {
     Tile {

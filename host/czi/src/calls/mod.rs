@@ -9,6 +9,7 @@
 
 mod compose;
 mod quote;
+mod repack;
 mod tables;
 
 use crate::ffi;
@@ -16,6 +17,7 @@ use crate::refusal::Refusal;
 
 pub use compose::{chosen, compose_plain, compose_quick, ChosenCounts, Counted, Plain};
 pub use quote::{quote, Quoted};
+pub use repack::{repack, repack_size};
 pub use tables::{dimensions, tiles};
 
 /// What stands behind the out-pointers before a call.
