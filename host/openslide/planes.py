@@ -2,6 +2,7 @@
 
     python3 planes.py FOLDER [--store TO]
     python3 planes.py --probes FOLDER ANSWERS
+    python3 planes.py --repacked FOLDER
 
 FOLDER has cases.txt as host/openslide/make writes it and, of each case, OpenSlide's answer NAME.argb and the
 command's plane NAME.plane and map NAME.pbm. Every pixel is compared: whether a tile gave it, and its three
@@ -10,6 +11,11 @@ OpenSlide's planes go to TO as NAME.raw, three bytes a pixel, and NAME.pbm.
 
 With --probes it says of each file what the command judged (NAME.judged) and what OpenSlide answered, and where
 both gave a plane of 26 by 16, how they differ.
+
+With --repacked it compares what OpenSlide answered of the files FOLDER/NAME.czi (in FOLDER/answers, with NAME.argb)
+and of the repacked ones (in FOLDER/repacked, with what the command said of each in NAME.said): every pixel, colour and
+alpha. It says where OpenSlide does not answer the same. Exits 1 where a pixel or the size differs, where OpenSlide
+reads the old file and not the new one, and where a repack is refused.
 """
 import sys
 from pathlib import Path
@@ -113,8 +119,55 @@ def probes(folder, answers):
     return 0
 
 
+def answers_in(folder):
+    """What OpenSlide answered of each file, by name: WIDTH HEIGHT or why not."""
+    lines = (folder / "answers").read_text().splitlines()
+    return dict(line.split(": ", 1) if ": " in line else line.split(" ", 1) for line in lines)
+
+
+def repacked(folder):
+    new = folder / "repacked"
+    old_answers, new_answers = answers_in(folder), answers_in(new)
+    files = carried = dropped = before = after = read = pixels = given = differ = unread = wrong = 0
+    for path in sorted(folder.glob("*.czi")):
+        name = path.stem
+        if not (new / path.name).exists():
+            print("%s: the repack is refused: %s" % (name, (new / (name + ".said")).read_text().strip()))
+            wrong += 1
+            continue
+        said = dict(line.split("=", 1) for line in (new / (name + ".said")).read_text().splitlines() if "=" in line)
+        files, dropped = files + 1, dropped + int(said["segments_dropped"])
+        carried += said["segments_dropped"] != "0"
+        before, after = before + path.stat().st_size, after + (new / path.name).stat().st_size
+        old_plane, new_plane = folder / (name + ".argb"), new / (name + ".argb")
+        if old_answers[name] != new_answers[name]:
+            print("%s: OpenSlide's answer of the old file: %s; of the new one: %s"
+                  % (name, old_answers[name], new_answers[name]))
+        if not old_plane.exists():
+            unread += 1
+        elif old_answers[name] != new_answers[name] or not new_plane.exists():
+            wrong += 1
+        else:
+            one, other = old_plane.read_bytes(), new_plane.read_bytes()
+            width, height = map(int, old_answers[name].split())
+            if len(one) != 4 * width * height or len(other) != len(one):
+                sys.exit("%s: OpenSlide's plane has another size" % name)
+            count = 0 if one == other else sum(one[k:k + 4] != other[k:k + 4] for k in range(0, len(one), 4))
+            if count:
+                print("%s: %d of %d pixels differ in the new file" % (name, count, width * height))
+            read, pixels, differ = read + 1, pixels + width * height, differ + count
+            given += width * height - one[3::4].count(0)
+    print("%d repacked, %d of them with dead segments; %d dead segments, %d bytes before, %d after"
+          % (files, carried, dropped, before, after))
+    print("%d that OpenSlide reads, %d it does not; %d pixels, %d of them given by a tile; %d differ"
+          % (read, unread, pixels, given, differ))
+    return 1 if differ or wrong or not read else 0
+
+
 def main():
     words = sys.argv[1:]
+    if words[0] == "--repacked":
+        return repacked(Path(words[1]))
     if words[0] == "--probes":
         return probes(Path(words[1]), Path(words[2]))
     return compare(Path(words[0]), Path(words[2]) if words[1:2] == ["--store"] else None)
