@@ -12,6 +12,7 @@ mod planes;
 #[allow(unsafe_code)]
 mod probe;
 mod quote;
+mod repack;
 mod report;
 mod scanner;
 mod table;
@@ -24,11 +25,12 @@ use table::table;
 use timing::Rounds;
 
 const USAGE: &str = "\
-usage: bench [--markdown] [--limits] [--metadata] [--quotes] [--times N] [--seconds S]
+usage: bench [--markdown] [--limits] [--metadata] [--quotes] [--repacks] [--times N] [--seconds S]
   --markdown   tables in Markdown
   --limits     the first table alone: the figures to reach
   --metadata   of that the lines about metadata alone
   --quotes     the lines about quotes alone
+  --repacks    the lines about repacks alone
   --times N    at least so many repetitions of each measure (21) ..
   --seconds S  .. and for at least so long (5)
 ";
@@ -38,6 +40,7 @@ struct Options {
     limits: bool,
     metadata: bool,
     quotes: bool,
+    repacks: bool,
     rounds: Rounds,
 }
 
@@ -66,6 +69,11 @@ fn main() {
         println!("{}", table(&report.others, options.markdown));
         return;
     }
+    if options.repacks {
+        let report = Report::of_repacks(options.rounds);
+        println!("{}", table(&report.limits, options.markdown));
+        return;
+    }
     let report = Report::new(options.rounds, !options.limits);
     println!("{}", table(&report.limits, options.markdown));
     if !probe::LINKED {
@@ -82,6 +90,7 @@ fn options() -> Option<Options> {
         limits: false,
         metadata: false,
         quotes: false,
+        repacks: false,
         rounds: Rounds {
             times: 21,
             length: Duration::from_secs(5),
@@ -94,6 +103,7 @@ fn options() -> Option<Options> {
             "--limits" => options.limits = true,
             "--metadata" => options.metadata = true,
             "--quotes" => options.quotes = true,
+            "--repacks" => options.repacks = true,
             "--times" => options.rounds.times = words.next()?.parse().ok().filter(|&n| n > 0)?,
             "--seconds" => {
                 options.rounds.length = Duration::from_secs(words.next()?.parse().ok()?);

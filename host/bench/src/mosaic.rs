@@ -72,6 +72,21 @@ impl Mosaic {
         deleted: usize,
         letters: &[u8],
     ) -> Mosaic {
+        Mosaic::written(pixel_type, tiles, deleted, letters, false)
+    }
+
+    /// A file of these tiles, behind each a DELETED segment of the sub-block's size.
+    pub fn with_dead(pixel_type: PixelType, tiles: &[Tile]) -> Mosaic {
+        Mosaic::written(pixel_type, tiles, 0, b"", true)
+    }
+
+    fn written(
+        pixel_type: PixelType,
+        tiles: &[Tile],
+        deleted: usize,
+        letters: &[u8],
+        dead: bool,
+    ) -> Mosaic {
         let mut bytes = file_segment();
         let mut entries = Vec::new();
         let mut places = Vec::new();
@@ -80,6 +95,9 @@ impl Mosaic {
             let (content, pixels) = tile.content(pixel_type, &entry);
             places.push((*tile, bytes.len() + 32 + pixels));
             segment(&mut bytes, Kind::SubBlock, &content);
+            if dead {
+                segment(&mut bytes, Kind::Deleted, &content);
+            }
             entries.push(entry);
         }
         for _ in 0..deleted {

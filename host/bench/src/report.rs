@@ -4,7 +4,7 @@ use crate::mosaic::TileMask;
 use crate::planes::Call;
 use crate::table::Line;
 use crate::timing::Rounds;
-use crate::{bits, leaves, metadata, probe, quote, whole};
+use crate::{bits, leaves, metadata, probe, quote, repack, whole};
 use czi::PixelType;
 
 /// The pixel types measured, one for each number of bytes.
@@ -42,6 +42,13 @@ impl Report {
         report
     }
 
+    /// Takes the measures of repacks alone.
+    pub fn of_repacks(rounds: Rounds) -> Report {
+        let mut report = Report::default();
+        report.repacks(rounds);
+        report
+    }
+
     /// Takes the measures: all, or those with a limit.
     pub fn new(rounds: Rounds, all: bool) -> Report {
         let mut report = Report::default();
@@ -56,6 +63,7 @@ impl Report {
         report.map_bits(rounds, all);
         report.judge(rounds, all);
         report.metadata(rounds);
+        report.repacks(rounds);
         if all {
             report.quotes(rounds);
         }
@@ -165,6 +173,17 @@ impl Report {
             self.limits
                 .push(Line::new(measure, whole, half).at_most(2.2));
         }
+    }
+
+    fn repacks(&mut self, rounds: Rounds) {
+        let [library, native] = repack::large(rounds);
+        let measure = "repack of 1 GB, every second segment dead / native copies";
+        self.limits
+            .push(Line::new(measure, library, native).at_most(1.15));
+        let [library, judged] = repack::small(rounds);
+        let measure = "repack of 4,096 tiles, no attachments / judge";
+        self.limits
+            .push(Line::new(measure, library, judged).at_most(3.0));
     }
 
     fn quotes(&mut self, rounds: Rounds) {
