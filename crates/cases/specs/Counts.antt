@@ -11,8 +11,9 @@ use Rattle.format.specs.Names.{nameFile, nameDirectory, nameSubBlock, nameMetad
 use Rattle.format.specs.Checks.{rowsBelow, ifAccepted}
 use Rattle.format.specs.Segments.{allocatedSize, usedSize, room, nextSegment, lengthBad, nameBad, allocatedBad, usedBad, endBad, sizesBad, roleBad, segmentRows, walkRows, walkedFrom, walked, segmentsRows, member, walkedAs}
 use Rattle.format.specs.File.{major, filePart, directoryPosition, metadataPosition, updatePending, attachmentDirectoryPosition, namesNone, namesNoneBut0, fileRows}
-use Rattle.format.specs.Entry.{pixelType, filePosition, entryPart, compression, dimensionCount, letter, start, size, storedField, stored, nextEntry, headBad, letterBad, tooFar, isPlane, sizeBad, dimensionBad, hasLetter, repeats, closesPlane, dimensionsBad, letterIndex, letterPlace, pixelBytes, isPyramid}
-use Rattle.format.specs.SubBlock.{metadataSize, attachmentSize, dataSize, fixedPart, copyBad, subBlockBad, pixelsSize, contentsBad, metadataPlace, pixelsPlace, attachmentPlace}
+use Rattle.format.specs.Entry.{pixelType, filePosition, entryPart, compression, dimensionCount, letter, start, size, storedField, stored, nextEntry, headBad, letterBad, tooFar, isPlane, mostSize, planeSizeBad, otherSizeBad, sizeBad, dimensionBad, hasLetter, repeats, closesPlane, hasLayers, layersBad, dimensionsBad, letterIndex, letterPlace, isLayered, layersIndex, layersPlace, layerCount, pixelBytes, isPyramid}
+use Rattle.format.specs.SubBlock.{metadataSize, attachmentSize, dataSize, fixedPart, copyBad, subBlockBad, layerSize, pixelsSize, contentsBad, metadataPlace, pixelsPlace, attachmentPlace}
+use Rattle.format.specs.Choice.{askedStart}
 use Rattle.format.specs.Markup.{orNone, readFrom, readsAs}
 use Rattle.format.specs.Container.{endsWell, declares, isContainer}
 use Rattle.format.specs.Masks.{hasChunks}
@@ -23,7 +24,7 @@ use Rattle.format.specs.declared.Release.the-variants.{R12}
 use Rattle.format.specs.declared.Verdict.{Verdict}
 use Rattle.format.specs.declared.Verdict.the-variants.{Accepted, Refused}
 use Rattle.plane.specs.Sums.{sum, tab}
-use Rattle.selection.specs.Select.{askedStart, tileStart, free, startsThere, selects}
+use Rattle.selection.specs.Select.{tileStart, free, startCount, hasStart, selects}
 use Rattle.tiles.specs.FileTile.{rectangle, meets}
 use Rattle.counting.specs.Chosen.{sought, shares, selectsAt, meetsAt, markAt, countsBelow, countsOf, marksBelow, marksOf, chosenVerdict, noCounts}
 use Rattle.counting.specs.declared.ChosenCounts.{ChosenCounts}
@@ -94,5 +95,5 @@ cases =
     []
 
 pub all-right : AllRight cases
-unfolding little segment fileSegment dimensionOf entryOf blockOf wide8 fileWide fileTwo twoChannels sum tab shares selectsAt meetsAt markAt countsBelow marksBelow chosenVerdict askedStart tileStart free startsThere selects rectangle meets isPyramid anyOf anyBelow allBelow leastBelow u32At u64At biased sameAt sameRange nameFile nameDirectory nameSubBlock nameMetadata nameAttachment nameAttachmentDirectory nameDeleted markTile rowsBelow allocatedSize usedSize room nextSegment lengthBad nameBad allocatedBad usedBad endBad sizesBad roleBad segmentRows walkRows walkedFrom walked segmentsRows member walkedAs major filePart directoryPosition metadataPosition updatePending attachmentDirectoryPosition namesNone namesNoneBut0 fileRows pixelType filePosition entryPart compression dimensionCount letter start size storedField stored nextEntry headBad letterBad tooFar isPlane sizeBad dimensionBad hasLetter repeats closesPlane dimensionsBad letterIndex letterPlace pixelBytes metadataSize attachmentSize dataSize fixedPart copyBad subBlockBad pixelsSize contentsBad metadataPlace pixelsPlace attachmentPlace partOf Option·elim orNone readFrom readsAs endsWell declares isContainer hasChunks entryCount roomEnd tileCount entryPlace directoryBad headRows tileRows subBlockRows attachmentRows entryRows directoryRows metadataRows attachmentsRows checks
+unfolding little segment fileSegment dimensionOf entryOf blockOf wide8 fileWide fileTwo twoChannels sum tab shares selectsAt meetsAt markAt countsBelow marksBelow chosenVerdict askedStart tileStart free startCount hasStart selects rectangle meets isPyramid anyOf anyBelow allBelow leastBelow u32At u64At biased sameAt sameRange nameFile nameDirectory nameSubBlock nameMetadata nameAttachment nameAttachmentDirectory nameDeleted markTile rowsBelow allocatedSize usedSize room nextSegment lengthBad nameBad allocatedBad usedBad endBad sizesBad roleBad segmentRows walkRows walkedFrom walked segmentsRows member walkedAs major filePart directoryPosition metadataPosition updatePending attachmentDirectoryPosition namesNone namesNoneBut0 fileRows pixelType filePosition entryPart compression dimensionCount letter start size storedField stored nextEntry headBad letterBad tooFar isPlane mostSize planeSizeBad otherSizeBad sizeBad dimensionBad hasLetter repeats closesPlane hasLayers layersBad dimensionsBad letterIndex letterPlace isLayered layersIndex layersPlace layerCount pixelBytes metadataSize attachmentSize dataSize fixedPart copyBad subBlockBad layerSize pixelsSize contentsBad metadataPlace pixelsPlace attachmentPlace partOf Option·elim orNone readFrom readsAs endsWell declares isContainer hasChunks entryCount roomEnd tileCount entryPlace directoryBad headRows tileRows subBlockRows attachmentRows entryRows directoryRows metadataRows attachmentsRows checks
 all-right = (refl, (refl, (refl, (refl, (refl, (refl, (refl, (refl, (refl, (refl, (refl, tt)))))))))))

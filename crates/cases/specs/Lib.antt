@@ -5,3 +5,4 @@ pub mod Written
 pub mod Sections
 pub mod Quotes
 pub mod Repacks
+pub mod Layers

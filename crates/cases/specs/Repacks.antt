@@ -11,8 +11,8 @@ use Rattle.format.specs.Names.{nameFile, nameDirectory, nameSubBlock, nameMetad
 use Rattle.format.specs.Checks.{rowsBelow}
 use Rattle.format.specs.Segments.{allocatedSize, usedSize, room, nextSegment, lengthBad, nameBad, allocatedBad, usedBad, endBad, sizesBad, roleBad, segmentRows, walkRows, walkedFrom, walked, segmentsRows, member, walkedAs}
 use Rattle.format.specs.File.{major, filePart, directoryPosition, metadataPosition, updatePending, attachmentDirectoryPosition, namesNone, namesNoneBut0, fileRows}
-use Rattle.format.specs.Entry.{pixelType, filePosition, entryPart, compression, dimensionCount, letter, start, size, storedField, stored, nextEntry, headBad, letterBad, tooFar, isPlane, sizeBad, dimensionBad, hasLetter, repeats, closesPlane, dimensionsBad, letterIndex, letterPlace, pixelBytes}
-use Rattle.format.specs.SubBlock.{metadataSize, attachmentSize, dataSize, fixedPart, copyBad, subBlockBad, pixelsSize, contentsBad, metadataPlace, pixelsPlace, attachmentPlace}
+use Rattle.format.specs.Entry.{pixelType, filePosition, entryPart, compression, dimensionCount, letter, start, size, storedField, stored, nextEntry, headBad, letterBad, tooFar, isPlane, mostSize, planeSizeBad, otherSizeBad, sizeBad, dimensionBad, hasLetter, repeats, closesPlane, hasLayers, layersBad, dimensionsBad, letterIndex, letterPlace, isLayered, layersIndex, layersPlace, layerCount, pixelBytes}
+use Rattle.format.specs.SubBlock.{metadataSize, attachmentSize, dataSize, fixedPart, copyBad, subBlockBad, layerSize, pixelsSize, contentsBad, metadataPlace, pixelsPlace, attachmentPlace}
 use Rattle.format.specs.Markup.{white, nameByte, textByte, quote, beginsName, opener, closer, front, behind, begins, behindFirst, quoteAfter, behindTag}
 use Rattle.format.specs.Markup.{tagAt, closed, endTagAt, skipAt, markAt, itemAt, orNone, oneMore, readFrom, readsAs}
 use Rattle.format.specs.Container.{sameBytes, inSection, startStage, textStage, endsWell, declares, isContainer}
@@ -149,5 +149,5 @@ cases =
     []
 
 pub all-right : AllRight cases
-unfolding little segment fileSegment element containerSection anyOf anyBelow allBelow leastBelow u32At u64At biased sameAt sameRange nameFile nameDirectory nameSubBlock nameMetadata nameAttachment nameAttachmentDirectory nameDeleted markTile tagMetadata tagSchema tagFormat textContainer maskGuid rowsBelow allocatedSize usedSize room nextSegment lengthBad nameBad allocatedBad usedBad endBad sizesBad roleBad segmentRows walkRows walkedFrom walked segmentsRows member walkedAs major filePart directoryPosition metadataPosition updatePending attachmentDirectoryPosition namesNone namesNoneBut0 fileRows pixelType filePosition entryPart compression dimensionCount letter start size storedField stored nextEntry headBad letterBad tooFar isPlane sizeBad dimensionBad hasLetter repeats closesPlane dimensionsBad letterIndex letterPlace pixelBytes metadataSize attachmentSize dataSize fixedPart copyBad subBlockBad pixelsSize contentsBad metadataPlace pixelsPlace attachmentPlace white nameByte textByte quote beginsName opener closer front behind begins behindFirst quoteAfter behindTag tagAt closed endTagAt skipAt markAt itemAt orNone oneMore readFrom readsAs sameBytes inSection startStage textStage endsWell declares partOf Option·elim isContainer hasChunks chunkSize nextChunk chunkBad isMask maskBad maskRefused maskWidth maskHeight maskStride representation chunkRows chunksRows maskByte maskValid entryCount roomEnd tileCount entryPlace directoryBad headRows tileRows subBlockRows attachmentRows entryRows directoryRows metadataRows attachmentsRows checks verdict file288 dimension1 entry1 file19 heading new704 spare entryAt attachedAt fileDirty newBlockAt newClean bytesOf zeros allocated segmentSize header segmentBytes packed each joined fileContent movedEntry directoryContent partsSize subBlockContent metadataContent movedAttachmentEntry attachmentDirectoryContent attachmentContent entrySize entriesSize directorySize subBlockSize metadataContentSize attachmentDirectorySize attachmentContentSize newDirectory newBlock newMetadata newAttachmentDirectory newAttachment newEntry newAttachmentEntry New.fileSegment directorySegment blockSegment metadataSegment attachmentDirectorySegment attachmentSegment annexSegments newSegments repacked tooLarge sizeVerdict repackVerdict xmlSize xmlAttachmentSize metadataBad attachmentEntryCount attachmentEntry attachmentDirectoryBad attachmentCount attachmentPosition attachmentPart attachmentEntryBad attachmentDataSize attachmentBad attachmentDataBad attachmentEntryRows attachmentDirectoryRows markAttachment
+unfolding little segment fileSegment element containerSection anyOf anyBelow allBelow leastBelow u32At u64At biased sameAt sameRange nameFile nameDirectory nameSubBlock nameMetadata nameAttachment nameAttachmentDirectory nameDeleted markTile tagMetadata tagSchema tagFormat textContainer maskGuid rowsBelow allocatedSize usedSize room nextSegment lengthBad nameBad allocatedBad usedBad endBad sizesBad roleBad segmentRows walkRows walkedFrom walked segmentsRows member walkedAs major filePart directoryPosition metadataPosition updatePending attachmentDirectoryPosition namesNone namesNoneBut0 fileRows pixelType filePosition entryPart compression dimensionCount letter start size storedField stored nextEntry headBad letterBad tooFar isPlane mostSize planeSizeBad otherSizeBad sizeBad dimensionBad hasLetter repeats closesPlane hasLayers layersBad dimensionsBad letterIndex letterPlace isLayered layersIndex layersPlace layerCount pixelBytes metadataSize attachmentSize dataSize fixedPart copyBad subBlockBad layerSize pixelsSize contentsBad metadataPlace pixelsPlace attachmentPlace white nameByte textByte quote beginsName opener closer front behind begins behindFirst quoteAfter behindTag tagAt closed endTagAt skipAt markAt itemAt orNone oneMore readFrom readsAs sameBytes inSection startStage textStage endsWell declares partOf Option·elim isContainer hasChunks chunkSize nextChunk chunkBad isMask maskBad maskRefused maskWidth maskHeight maskStride representation chunkRows chunksRows maskByte maskValid entryCount roomEnd tileCount entryPlace directoryBad headRows tileRows subBlockRows attachmentRows entryRows directoryRows metadataRows attachmentsRows checks verdict file288 dimension1 entry1 file19 heading new704 spare entryAt attachedAt fileDirty newBlockAt newClean bytesOf zeros allocated segmentSize header segmentBytes packed each joined fileContent movedEntry directoryContent partsSize subBlockContent metadataContent movedAttachmentEntry attachmentDirectoryContent attachmentContent entrySize entriesSize directorySize subBlockSize metadataContentSize attachmentDirectorySize attachmentContentSize newDirectory newBlock newMetadata newAttachmentDirectory newAttachment newEntry newAttachmentEntry New.fileSegment directorySegment blockSegment metadataSegment attachmentDirectorySegment attachmentSegment annexSegments newSegments repacked tooLarge sizeVerdict repackVerdict xmlSize xmlAttachmentSize metadataBad attachmentEntryCount attachmentEntry attachmentDirectoryBad attachmentCount attachmentPosition attachmentPart attachmentEntryBad attachmentDataSize attachmentBad attachmentDataBad attachmentEntryRows attachmentDirectoryRows markAttachment
 all-right = (refl, (refl, (refl, (refl, (refl, (refl, (refl, (refl, (refl, (refl, (refl, (refl, (refl, (refl, (refl, tt)))))))))))))))

@@ -23,7 +23,7 @@ apart-entry : (ch : Choice) (w : Rect) (k : ℕ) → meets (rectangle (ch .scan 
     → (p : ℕ) → p < area w → givesAt w (fileTile ch k) p ≡ false
 unfolding fileTile
 apart-entry ch w k e h p l =
-    gives-none (ch .scan .file) (ch .masks) k (tileEntry (ch .scan) k) (tileFile (ch .scan) k) (tilePosition (ch .scan) k) (ch .scan .release) w e h p l
+    gives-none (ch .scan .file) (ch .masks) _ k (tileEntry (ch .scan) k) (tileFile (ch .scan) k) (tilePosition (ch .scan) k) (ch .scan .release) w e h p l
 
 module _ (ch : Choice) (table : List ℕ) (w : Rect) where
   apart : (n : ℕ) → n ≤ 4096 → 1 ≤ w .width → Apart w (meetsWindow ch table w) (tilesBelow n ch (chosenIn table))

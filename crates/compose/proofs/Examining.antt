@@ -10,9 +10,8 @@ use lib.Dec.{eqb}
 use borrow.Author.Tests.{eqb-true, eqb-false, not-false, not-true}
 use lib.IntN.{ℤ}
 use Rattle.format.specs.Choice.{Choice}
-use Rattle.format.specs.Bytes.{allBelow}
 use Rattle.format.specs.Checks.{Check, first, rowsBelow}
-use Rattle.format.specs.Entry.{pixelType, isPyramid}
+use Rattle.format.specs.Entry.{pixelType}
 use Rattle.format.specs.Directory.{tileCount, entryPlace}
 use Rattle.format.specs.Rules.{checks, verdict, AcceptedFile}
 use Rattle.format.specs.declared.Verdict.{Verdict}
@@ -22,9 +21,10 @@ use Rattle.directory.proofs.Stages.{then-stop, then-next}
 use Rattle.plane.specs.declared.Rect.{Rect}
 use Rattle.plane.specs.Turns.{Painting, Kind, compose}
 use Rattle.tiles.specs.FileTile.{rectangle, meets, fileTile, tilesBelow, paints}
-use Rattle.selection.specs.Select.{selects, startsThere}
 use Rattle.selection.specs.Table.{Selection}
 use Rattle.selection.proofs.Chosen.{not-chosen, is-chosen}
+use Rattle.selection.proofs.Starts.{selected-whole, selected-layer}
+use Rattle.judge.proofs.AcceptedFile.{tiled}
 use Rattle.question.specs.Question.{masksOn, typeBad, agreeRow, askRows, agreeRows, requestWindow, windowBad}
 use Rattle.question.specs.Call.{Asked, choiceOf, chosen, callVerdict, askedWindow, askedBytes, selected, painted, answer, targetAfter, mapAfter, Answered}
 use Rattle.question.specs.declared.WindowRequest.{WindowRequest}
@@ -37,14 +37,6 @@ use Rattle.compose.specs.declared.Counts.{Counts}
 use Rattle.compose.proofs.KeyTiles.{tiles-ext}
 
 -- ---- the table of a selection chooses as the starts do
-
-selected-whole : (bs : List ℕ) (starts : List ℤ) (anyScene : Bool) (e : ℕ) → selects bs starts anyScene e ≡ true → isPyramid bs e ≡ false
-unfolding selects
-selected-whole bs starts anyScene e h = go (isPyramid bs e) _ h
-  where
-    go : (b s : Bool) → cond b false s ≡ true → b ≡ false
-    go true s h = absurd (true≢false (sym h))
-    go false s h = refl
 
 module _ (bs : List ℕ) (starts : List ℤ) (anyScene : Bool) {before table : List ℕ} {n : ℕ} (accepted : AcceptedFile bs) (size : length before ≡ 4096)
     (s : Selection bs starts anyScene before table n) where
@@ -145,8 +137,8 @@ same-type : (bs : List ℕ) (w : Rect) (t e : ℕ) → meets (rectangle bs e) w 
 unfolding typeBad
 same-type bs w t e h k = rw h at k
 
--- painting reads no start
-tiles-paint : (n : ℕ) (ch : Choice) (c : ℕ → Bool) → tilesBelow n (paints (ch .scan) (ch .masks)) c ≡ tilesBelow n ch c
+-- painting does not ask whether S may be any
+tiles-paint : (n : ℕ) (ch : Choice) (c : ℕ → Bool) → tilesBelow n (paints (ch .scan) (ch .starts) (ch .masks)) c ≡ tilesBelow n ch c
 unfolding tilesBelow fileTile
 tiles-paint zero ch c = refl
 tiles-paint (suc n) ch c = rw (tiles-paint n ch c)
@@ -156,7 +148,7 @@ module _ (a : Asked) (t m : List ℕ) {table : List ℕ} {w : Rect} (v : Verdict
   accepted : callVerdict a (length t) (length m) ≡ Accepted
   accepted = sym (x .verdict-is) ∙ y
 
-  pub plane-room : PlaneRoom t m (a .scan) table (a .background) w (a .request .«pixel_type»)
+  pub plane-room : PlaneRoom t m (a .scan) (a .starts) table (a .background) w (a .request .«pixel_type»)
   unfolding verdict
   plane-room =
       let ok = call-ok a (length t) (length m) accepted in
@@ -164,6 +156,9 @@ module _ (a : Asked) (t m : List ℕ) {table : List ℕ} {w : Rect} (v : Verdict
       record {
         accepted = ok .file;
         chosen = s .table-is;
+        asked = λ k h c.
+            selected-layer bs (a .starts) (a .anyScene) (entryPlace bs k)
+            (tiled (a .scan) (ok .file) .tile k h .filled .agreed .placed .listed .dimensions) (sym (s .as-asked k h) ∙ c);
         edges = edges-fit (askedWindow a) e (ok .window);
         room = rw e (room a t m accepted);
         small = rw e (mul-le-mul (p .low) (p .narrow));
@@ -189,7 +184,7 @@ module _ (a : Asked) (t m : List ℕ) {table : List ℕ} {w : Rect} (v : Verdict
 
   -- the run that was painted is the call's
   module _ {k : Kind} (on : Bool) (o : on ≡ masksOn (a .request .masks)) {t′ m′ : List ℕ} {c : Counts}
-      (d : PlaneDone k t m (paints (a .scan) on) table (a .background) w (a .request .«pixel_type») t′ m′ c) where
+      (d : PlaneDone k t m (paints (a .scan) (a .starts) on) table (a .background) w (a .request .«pixel_type») t′ m′ c) where
     whole-call : _≡_ {A = Painting} (record { target = t′; map = m′; stored = c .stored }) (painted k a t m)
     unfolding selected
     whole-call =

@@ -7,7 +7,7 @@ use lib.ListN.{length, getD, take}
 use lib.Dec.{eqb}
 use lib.IntN.{ℤ}
 use Rattle.format.specs.Scan.{Scan, scanOf, blockFile}
-use Rattle.format.specs.Choice.{Choice}
+use Rattle.format.specs.Choice.{Choice, askedLayer}
 use Rattle.format.specs.Checks.{first}
 use Rattle.format.specs.Entry.{pixelType, pixelBytes, filePosition, isPyramid}
 use Rattle.format.specs.Directory.{tileCount, entryPlace}
@@ -25,6 +25,7 @@ use Rattle.subblocks.specs.Judged.{Listed}
 use Rattle.tiles.specs.FileTile.{rankOf, rectangle, meets, fileTile, tilesBelow}
 use Rattle.tiles.specs.Painted.{PaintRoom, Painted}
 use Rattle.selection.specs.Select.{selects}
+use Rattle.selection.specs.Layer.{HasAskedLayer}
 use Rattle.question.specs.Question.{requestWindow, askRows, agreeRows}
 use Rattle.question.specs.Call.{Asked, callVerdict}
 use Rattle.question.specs.declared.WindowRequest.{WindowRequest}
@@ -89,26 +90,33 @@ abbrev pub keyPlace : List ℕ → ℕ → ℕ
 keyPlace table key = getD table (key % 4096) 0
 
 -- what its turn may read and write
-pub record KeyRoom (t m : List ℕ) (sc : Scan) (table : List ℕ) (key : ℕ) (on : Bool) (w : Rect) : Type 0 where
+pub record KeyRoom (t m : List ℕ) (sc : Scan) (starts : List ℤ) (table : List ℕ) (key : ℕ) (on : Bool) (w : Rect) : Type 0 where
   pub size : length table ≡ 4096
-  pub paint : PaintRoom t m (sc .file) (keyPlace table key) (blockFile sc (keyPlace table key)) (filePosition (sc .file) (keyPlace table key)) (sc .release)
-      on w
+  pub asked : HasAskedLayer (sc .file) (keyPlace table key) starts
+  pub paint : PaintRoom t m (sc .file) (keyPlace table key) (blockFile sc (keyPlace table key)) (filePosition (sc .file) (keyPlace table key))
+      (askedLayer (sc .file) (keyPlace table key) starts) (sc .release) on w
 
 -- what its turn does
-pub record KeyPainted (t m : List ℕ) (sc : Scan) (table : List ℕ) (key : ℕ) (on : Bool) (w : Rect) (quick : Bool) (t′ m′ : List ℕ) (r : ℕ) : Type 0 where
-  pub painted : Painted t m (sc .file) (keyPlace table key) (blockFile sc (keyPlace table key)) (filePosition (sc .file) (keyPlace table key)) (sc .release)
-      on w quick t′ m′ r
+pub record KeyPainted (t m : List ℕ) (sc : Scan) (starts : List ℤ) (table : List ℕ) (key : ℕ) (on : Bool) (w : Rect) (quick : Bool) (t′ m′ : List ℕ) (r : ℕ)
+    : Type 0 where
+  pub painted : Painted t m (sc .file) (keyPlace table key) (blockFile sc (keyPlace table key)) (filePosition (sc .file) (keyPlace table key))
+      (askedLayer (sc .file) (keyPlace table key) starts) (sc .release) on w quick t′ m′ r
 
 -- the tiles in the order of each kind's turns, along rising keys
 abbrev pub turnOrder : Kind → List Tile → List Tile
 turnOrder plain l = l
 turnOrder quick l = reverse l
 
+-- every chosen tile has the layer that the starts ask for
+abbrev pub HasAskedLayers : List ℕ → List ℤ → List ℕ → Type 0
+HasAskedLayers bs starts table = (k : ℕ) → k < tileCount bs → chosenIn table k ≡ true → HasAskedLayer bs (entryPlace bs k) starts
+
 -- what the turns along the first count keys may read and write: the table and the keys are those of a selection of the file's entries,
--- every tile that takes a turn has the asked type, and the window has room
-pub record RunRoom (t m : List ℕ) (sc : Scan) (table keys : List ℕ) (count : ℕ) (w : Rect) (pixel : ℕ) : Type 0 where
+-- every tile that takes a turn has the asked type and layer, and the window has room
+pub record RunRoom (t m : List ℕ) (sc : Scan) (starts : List ℤ) (table keys : List ℕ) (count : ℕ) (w : Rect) (pixel : ℕ) : Type 0 where
   pub accepted : verdict sc ≡ Accepted
   pub chosen : Chosen (sc .file) table
+  pub asked : HasAskedLayers (sc .file) starts table
   pub gathered : Gathered (tileCount (sc .file)) (sc .file) table w keys count
   pub edges : Edges w
   pub room : Room w (pixelBytes pixel) t m
@@ -122,10 +130,11 @@ pub record RunDone (k : Kind) (t m : List ℕ) (ch : Choice) (keys : List ℕ) (
 
 -- ---- the whole of painting an accepted selection
 
--- what painting may read and write: a selection whose tiles that meet the window have the asked type, and lent bytes with room
-pub record PlaneRoom (t m : List ℕ) (sc : Scan) (table background : List ℕ) (w : Rect) (pixel : ℕ) : Type 0 where
+-- what painting may read and write: a selection whose tiles have the asked layer and, where they meet the window, the asked type, and lent bytes with room
+pub record PlaneRoom (t m : List ℕ) (sc : Scan) (starts : List ℤ) (table background : List ℕ) (w : Rect) (pixel : ℕ) : Type 0 where
   pub accepted : verdict sc ≡ Accepted
   pub chosen : Chosen (sc .file) table
+  pub asked : HasAskedLayers (sc .file) starts table
   pub edges : Edges w
   pub room : Room w (pixelBytes pixel) t m
   pub small : area w ≤ 4294967296

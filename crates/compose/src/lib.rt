@@ -106,25 +106,27 @@ fn gather(s: &[u8], table: &[u64; 4096], n: u64, w: Rect, keys: &mut [u64; 4096]
 
 // ---- turns
 
-// The turn of the tile that a key stands for.
+// The turn of the tile that a key stands for, with the layer that is asked for.
 fn paint_key(
     target: &mut [u8],
     map: &mut [u8],
     s: &[u8],
     release: Release,
+    starts: &[i32],
     table: &[u64; 4096],
     key: u64,
     w: Rect,
     on: bool,
     quick: bool,
 ) -> usize
-    requires { ⌜ KeyRoom (now target) (now map) (scanOf (now s) release) (now table) key on w ⌝ }
-    ensures { λ r. ⌜ KeyPainted (now (target .entry)) (now (map .entry)) (scanOf (now (s .entry)) release) (now (table .entry)) key on w quick (now (target .exit)) (now (map .exit)) r ⌝ }
+    requires { ⌜ KeyRoom (now target) (now map) (scanOf (now s) release) (now starts) (now table) key on w ⌝ }
+    ensures { λ r. ⌜ KeyPainted (now (target .entry)) (now (map .entry)) (scanOf (now (s .entry)) release) (now (starts .entry)) (now (table .entry)) key on w quick (now (target .exit)) (now (map .exit)) r ⌝ }
 {
     let k = (key % 4096) as usize;
     let e = table[k];
     let q = entries::file_position(s, e);
-    tiles::paint_entry(target, map, s, e, s, q, release, w, on, quick)
+    let l = selection::asked_layer(s, e, starts);
+    tiles::paint_entry(target, map, s, e, s, q, l, release, w, on, quick)
 }
 
 // The plain composer's turns over tiles of type t: bottom tile first, along rising keys. The result is the store count.
@@ -133,6 +135,7 @@ fn paint_up(
     map: &mut [u8],
     s: &[u8],
     release: Release,
+    starts: &[i32],
     table: &[u64; 4096],
     keys: &[u64; 4096],
     count: usize,
@@ -140,14 +143,14 @@ fn paint_up(
     t: u64,
     on: bool,
 ) -> u64
-    requires { ⌜ RunRoom (now target) (now map) (scanOf (now s) release) (now table) (now keys) count w t ⌝ }
-    ensures { λ r. ⌜ RunDone plain (now (target .entry)) (now (map .entry)) (paints (scanOf (now (s .entry)) release) on) (now (keys .entry)) count w t (now (target .exit)) (now (map .exit)) r ⌝ }
+    requires { ⌜ RunRoom (now target) (now map) (scanOf (now s) release) (now starts) (now table) (now keys) count w t ⌝ }
+    ensures { λ r. ⌜ RunDone plain (now (target .entry)) (now (map .entry)) (paints (scanOf (now (s .entry)) release) (now (starts .entry)) on) (now (keys .entry)) count w t (now (target .exit)) (now (map .exit)) r ⌝ }
 {
     let mut stored: u64 = 0;
     let mut i: usize = 0;
     while i < count {
         let key = keys[i];
-        stored += paint_key(target, map, s, release, table, key, w, on, false) as u64;
+        stored += paint_key(target, map, s, release, starts, table, key, w, on, false) as u64;
         i += 1;
     }
     stored
@@ -159,6 +162,7 @@ fn paint_down(
     map: &mut [u8],
     s: &[u8],
     release: Release,
+    starts: &[i32],
     table: &[u64; 4096],
     keys: &[u64; 4096],
     count: usize,
@@ -166,15 +170,15 @@ fn paint_down(
     t: u64,
     on: bool,
 ) -> u64
-    requires { ⌜ RunRoom (now target) (now map) (scanOf (now s) release) (now table) (now keys) count w t ⌝ }
-    ensures { λ r. ⌜ RunDone quick (now (target .entry)) (now (map .entry)) (paints (scanOf (now (s .entry)) release) on) (now (keys .entry)) count w t (now (target .exit)) (now (map .exit)) r ⌝ }
+    requires { ⌜ RunRoom (now target) (now map) (scanOf (now s) release) (now starts) (now table) (now keys) count w t ⌝ }
+    ensures { λ r. ⌜ RunDone quick (now (target .entry)) (now (map .entry)) (paints (scanOf (now (s .entry)) release) (now (starts .entry)) on) (now (keys .entry)) count w t (now (target .exit)) (now (map .exit)) r ⌝ }
 {
     let mut stored: u64 = 0;
     let mut i = count;
     while 0 < i {
         i -= 1;
         let key = keys[i];
-        stored += paint_key(target, map, s, release, table, key, w, on, true) as u64;
+        stored += paint_key(target, map, s, release, starts, table, key, w, on, true) as u64;
     }
     stored
 }
@@ -199,6 +203,7 @@ fn paint_plane(
     map: &mut [u8],
     s: &[u8],
     release: Release,
+    starts: &[i32],
     table: &[u64; 4096],
     w: Rect,
     t: u64,
@@ -206,21 +211,45 @@ fn paint_plane(
     background: &[u8],
     quick: bool,
 ) -> Counts
-    requires { ⌜ PlaneRoom (now target) (now map) (scanOf (now s) release) (now table) (now background) w t ⌝ }
-    ensures { λ r. ⌜ PlaneDone (kindOf quick) (now (target .entry)) (now (map .entry)) (paints (scanOf (now (s .entry)) release) on) (now (table .entry)) (now (background .entry)) w t (now (target .exit)) (now (map .exit)) r ⌝ }
+    requires { ⌜ PlaneRoom (now target) (now map) (scanOf (now s) release) (now starts) (now table) (now background) w t ⌝ }
+    ensures { λ r. ⌜ PlaneDone (kindOf quick) (now (target .entry)) (now (map .entry)) (paints (scanOf (now (s .entry)) release) (now (starts .entry)) on) (now (table .entry)) (now (background .entry)) w t (now (target .exit)) (now (map .exit)) r ⌝ }
 {
     begin(target, map, w, t, background);
     let n = judge::tile_count(s);
     let mut keys = [0u64; 4096];
     let count = gather(s, table, n, w, &mut keys);
     if quick {
-        let stored = paint_down(target, map, s, release, table, &keys, count, w, t, on);
+        let stored = paint_down(
+            target,
+            map,
+            s,
+            release,
+            starts,
+            table,
+            &keys,
+            count,
+            w,
+            t,
+            on,
+        );
         return Counts {
             covered: stored,
             stored,
         };
     }
-    let stored = paint_up(target, map, s, release, table, &keys, count, w, t, on);
+    let stored = paint_up(
+        target,
+        map,
+        s,
+        release,
+        starts,
+        table,
+        &keys,
+        count,
+        w,
+        t,
+        on,
+    );
     let covered = cover::count_ones(map, w.height * w.width) as u64;
     Counts { covered, stored }
 }
@@ -330,7 +359,19 @@ fn compose_by(
             let t = f.pixel_type;
             let m = f.masks;
             let on = ask::masks_on(m);
-            let c = paint_plane(target, map, s, release, &table, w, t, on, background, quick);
+            let c = paint_plane(
+                target,
+                map,
+                s,
+                release,
+                starts,
+                &table,
+                w,
+                t,
+                on,
+                background,
+                quick,
+            );
             Composed::Done {
                 covered: c.covered,
                 stored: c.stored,

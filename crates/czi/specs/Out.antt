@@ -19,7 +19,7 @@ use Rattle.czi.specs.Numbers.{boxNumbers}
 
 -- the interface's number: it rises with every changed signature or array length
 abbrev pub interfaceNumber : ℕ
-interfaceNumber = 2
+interfaceNumber = 3
 
 -- a verdict: the refusal's number and place, 0 and 0 where there is none
 pub record VerdictOut (v : Verdict) (number place : ℕ) : Type 0 where

@@ -28,8 +28,8 @@ pub extern "C" fn czi_tile(
     release: u32,
     entry: u64,
     place: &mut u64,
-    numbers: &mut [u64; 22],
-    starts: &mut [i32; 3],
+    numbers: &mut [u64; 24],
+    starts: &mut [i32; 4],
 ) -> u32
     ensures { λ r. ⌜ TileOut (tileVerdict (lentScan (now (file .entry)) release) entry) (tileRecord (lentScan (now (file .entry)) release) entry) (now (numbers .entry)) (now (starts .entry)) r (now (place .exit)) (now (numbers .exit)) (now (starts .exit)) ⌝ }
 {

@@ -55,7 +55,7 @@ pub extern "C" fn czi_judge(file: &[u8], release: u32, place: &mut u64) -> u32
 pub extern "C" fn czi_version() -> u32
     ensures { λ r. ⌜ r ≡ interfaceNumber ⌝ }
 {
-    2
+    3
 }
 
 // Bytes a pixel of a type; 0 where the type is not listed.

@@ -12,8 +12,10 @@ use borrow.Author.Tests.{lt-ltb, le-ltb, eq-eqb, ne-eqb, ltb-true, ltb-false, le
 use Rattle.format.specs.Bytes.{sameAt, anyOf, anyBelow, leastBelow, signed32, biased}
 use Rattle.format.specs.Names.{markTile}
 use Rattle.format.specs.Entry.{dimensionCount, letter, start, size, stored, storedField, dimensionPlace, nextEntry, hasLetter, letterIndex, letterPlace}
-use Rattle.format.specs.Entry.{headBad, letterBad, tooFar, isPlane, sizeBad, dimensionBad, repeats, closesPlane, dimensionsBad, pixelBytes}
-use Rattle.format.proofs.Below.{none, any-found, any-none, least-is, least-none}
+use Rattle.format.specs.Entry.{headBad, letterBad, tooFar, isPlane, mostSize, planeSizeBad, otherSizeBad, sizeBad, dimensionBad, repeats, closesPlane}
+use Rattle.format.specs.Entry.{dimensionsBad, pixelBytes}
+use Rattle.format.specs.Entry.{hasLayers, layersBad, isLayered, layersIndex, layersPlace, layerCount}
+use Rattle.format.proofs.Below.{by-bool, none, any-found, any-none, least-is, least-none}
 
 -- ---- the fixed part
 
@@ -40,21 +42,37 @@ pub record Sized (bs : List ℕ) (d : ℕ) : Type 0 where
   -- Start + Size is at most 2 ^ 31 - 1
   pub end : biased (start bs d) + size bs d < 2 ^ 32
 
+most-few : (x : ℕ) → mostSize x ≤ 1024
+unfolding mostSize
+most-few x = go (eqb x 77) (eqb x 83)
+  where
+    go : (a b : Bool) → cond a 1 (cond b 1 1024) ≤ 1024
+    go true b = omega arith
+    go false true = omega arith
+    go false false = omega arith
+
 -- a Size that is not refused is at least 1 and not negative
 size-ok : (bs : List ℕ) (d : ℕ) → sizeBad bs d ≡ false → (1 ≤ size bs d) × (size bs d < 2 ^ 31)
-unfolding sizeBad
+unfolding sizeBad planeSizeBad otherSizeBad
 size-ok bs d h = go (isPlane (letter bs d)) h
   where
-    go : (t : Bool)
-        → cond t (anyOf (eqb (size bs d) 0 ∷ leb (2 ^ 31) (size bs d) ∷ [])) (anyOf (not (eqb (size bs d) 1) ∷ not (eqb (stored bs d) 1) ∷ [])) ≡ false
-        → (1 ≤ size bs d) × (size bs d < 2 ^ 31)
+    go : (t : Bool) → cond t (planeSizeBad bs d) (otherSizeBad bs d) ≡ false → (1 ≤ size bs d) × (size bs d < 2 ^ 31)
     go true h =
         let zero = eqb-false (size bs d) 0 (none _ h 0) in
         let high = leb-false (2 ^ 31) (size bs d) (none _ h 1) in
         (omega (arith, zero), omega (arith, high))
     go false h =
-        let one = eqb-true (size bs d) 1 (not-false _ (none _ h 0)) in
-        (omega (arith, one), omega (arith, one))
+        let zero = eqb-false (size bs d) 0 (none _ h 0) in
+        let high = ltb-false (mostSize (letter bs d)) (size bs d) (none _ h 1) in
+        (omega (arith, zero), omega (arith, high, most-few (letter bs d)))
+
+-- where it is not X or Y: at most as many layers as its letter may have, and stored so
+pub other-ok : (bs : List ℕ) (d : ℕ) → dimensionBad bs d ≡ false → isPlane (letter bs d) ≡ false
+    → (size bs d ≤ mostSize (letter bs d)) × (stored bs d ≡ size bs d)
+unfolding dimensionBad sizeBad otherSizeBad
+other-ok bs d h p =
+    let o : otherSizeBad bs d ≡ false = rw p at (none _ h 3) in
+    (ltb-false (mostSize (letter bs d)) (size bs d) (none _ o 1), eqb-true _ _ (not-false _ (none _ o 2)))
 
 -- a stored size is Size or a StoredSize that is not 0
 stored-ok : (bs : List ℕ) (d : ℕ) → 1 ≤ size bs d → size bs d < 2 ^ 31 → storedField bs d < 2 ^ 31 → (1 ≤ stored bs d) × (stored bs d < 2 ^ 31)
@@ -130,14 +148,14 @@ bad-at bs e k d r i j = rw (← i) j
 
 -- ---- the dimension of a letter
 
+-- the least number below n of which a test holds is at most n, which it is where there is none
+least-within : (n : ℕ) (t : ℕ → Bool) → leastBelow n t ≤ n
+least-within n t = by-bool (anyBelow n t) (λ h. let l = least-is n t h in omega (arith, l .below)) (λ h. omega (arith, least-none n t h))
+
 -- it lies in the entry, or behind it where the entry lacks the letter
 pub index-within : (bs : List ℕ) (e x : ℕ) → letterIndex bs e x ≤ dimensionCount bs e
 unfolding letterIndex
-index-within bs e x = go (anyBelow (dimensionCount bs e) (hasLetter bs e x)) refl
-  where
-    go : (b : Bool) → anyBelow (dimensionCount bs e) (hasLetter bs e x) ≡ b → leastBelow (dimensionCount bs e) (hasLetter bs e x) ≤ dimensionCount bs e
-    go true h = let l = least-is _ _ h in omega (arith, l .below)
-    go false h = omega (arith, least-none _ _ h)
+index-within bs e x = least-within (dimensionCount bs e) (hasLetter bs e x)
 
 -- of a letter that the entry has
 pub record Placed (bs : List ℕ) (e x : ℕ) : Type 0 where
@@ -155,6 +173,50 @@ letter-placed bs e x h =
 pub letter-in : (bs : List ℕ) (e x d : ℕ) (r : Bool) → nextEntry bs e ≤ length bs → r ≡ anyBelow (dimensionCount bs e) (hasLetter bs e x) → r ≡ true
     → d ≡ letterPlace bs e x → d + 20 ≤ length bs
 letter-in bs e x d r n j h i = omega (arith, letter-placed bs e x (sym j ∙ h) .within)
+
+-- ---- the dimension with layers
+
+pub layers-index-within : (bs : List ℕ) (e : ℕ) → layersIndex bs e ≤ dimensionCount bs e
+unfolding layersIndex
+layers-index-within bs e = least-within (dimensionCount bs e) (hasLayers bs e)
+
+-- what has layers is not X or Y, and of Size 2 or more
+layers-at : (bs : List ℕ) (e k : ℕ) → hasLayers bs e k ≡ true → (isPlane (letter bs (dimensionPlace e k)) ≡ false) × (1 < size bs (dimensionPlace e k))
+unfolding hasLayers
+layers-at bs e k h = go (isPlane (letter bs (dimensionPlace e k))) refl h
+  where
+    go : (t : Bool) → isPlane (letter bs (dimensionPlace e k)) ≡ t → cond t false (ltb 1 (size bs (dimensionPlace e k))) ≡ true
+        → (isPlane (letter bs (dimensionPlace e k)) ≡ false) × (1 < size bs (dimensionPlace e k))
+    go true p h = absurd (true≢false (sym h))
+    go false p h = (p, ltb-true 1 _ h)
+
+-- of an entry that has such a dimension
+pub record Stacked (bs : List ℕ) (e : ℕ) : Type 0 where
+  pub index : layersIndex bs e < dimensionCount bs e
+  pub within : layersPlace bs e + 20 ≤ nextEntry bs e
+  pub has : hasLayers bs e (layersIndex bs e) ≡ true
+  pub other : isPlane (letter bs (layersPlace bs e)) ≡ false
+  pub several : 1 < size bs (layersPlace bs e)
+
+pub layers-placed : (bs : List ℕ) (e : ℕ) → isLayered bs e ≡ true → Stacked bs e
+unfolding isLayered layersIndex layersPlace
+layers-placed bs e h =
+    let l = least-is (dimensionCount bs e) (hasLayers bs e) h in
+    let a = layers-at bs e _ (l .holds) in
+    record { index = l .below; within = dimension-within bs e _ (l .below); has = l .holds; other = a .0; several = a .1 }
+
+-- r says whether the entry has layers, whose dimension was found at d
+pub layers-in : (bs : List ℕ) (e d : ℕ) (r : Bool) → nextEntry bs e ≤ length bs → r ≡ isLayered bs e → r ≡ true → d ≡ layersPlace bs e → d + 20 ≤ length bs
+layers-in bs e d r n j h i = omega (arith, layers-placed bs e (sym j ∙ h) .within)
+
+-- how many planes there are: one where there are no layers
+pub one-plane : (bs : List ℕ) (e : ℕ) → isLayered bs e ≡ false → layerCount bs e ≡ 1
+unfolding layerCount
+one-plane bs e h = rw h
+
+pub several-planes : (bs : List ℕ) (e : ℕ) → isLayered bs e ≡ true → layerCount bs e ≡ size bs (layersPlace bs e)
+unfolding layerCount
+several-planes bs e h = rw h
 
 -- the stored size a and Size b of the dimension of the letter l, which were read at d
 module _ (bs : List ℕ) (e l d a b : ℕ) (i : d ≡ letterPlace bs e l) (j : a ≡ stored bs d) (k : b ≡ size bs d) where

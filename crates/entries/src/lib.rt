@@ -1,6 +1,7 @@
 // Judges and reads an entry of the sub-block directory and its dimensions. The callers have shown that what is read lies in the slice.
 use format::Dimension;
 use format::Extent;
+use format::Layers;
 use format::MIndex;
 ghost use mathlib.Core.Path.{_≡_};
 ghost use Prim.Native.Nat.{_+_, _*_, _<_, _≤_, _^_};
@@ -9,9 +10,10 @@ ghost use lib.ListN.{length};
 ghost use Rattle.format.specs.Bytes.{anyBelow, biased};
 ghost use Rattle.format.specs.Entry.{pixelType, filePosition, entryPart, compression, pyramidByte, dimensionCount, dimensionPlace, nextEntry};
 ghost use Rattle.format.specs.Entry.{letter, start, size, coordinateBits, storedField, stored};
-ghost use Rattle.format.specs.Entry.{headBad, letterBad, tooFar, isPlane, sizeBad, dimensionBad, hasLetter, repeats, closesPlane, dimensionsBad};
-ghost use Rattle.format.specs.Entry.{letterIndex, letterPlace, isPyramid, pixelBytes};
-ghost use Rattle.format.specs.Records.{extentAt, mIndexOf, dimensionAt};
+ghost use Rattle.format.specs.Entry.{headBad, letterBad, tooFar, isPlane, mostSize, planeSizeBad, otherSizeBad, sizeBad, dimensionBad, hasLetter, repeats, closesPlane};
+ghost use Rattle.format.specs.Entry.{hasLayers, layersBad, dimensionsBad};
+ghost use Rattle.format.specs.Entry.{letterIndex, letterPlace, isPyramid, isLayered, layersIndex, layersPlace, layerCount, pixelBytes};
+ghost use Rattle.format.specs.Records.{extentAt, mIndexOf, layersOf, dimensionAt};
 
 // ---- the fields of the entry at e
 
@@ -201,29 +203,61 @@ fn is_plane(letter: u64) -> bool
     false
 }
 
-// X and Y have a Size of at least 1; any other dimension has Size 1 and stored size 1.
+// The largest Size of a letter that is not X or Y.
+fn most_size(letter: u64) -> u64
+    ensures { λ r. ⌜ r ≡ mostSize letter ⌝ }
+{
+    if letter == 77 {
+        return 1;
+    }
+    if letter == 83 {
+        return 1;
+    }
+    1024
+}
+
+// X and Y have a Size of at least 1.
+fn plane_size_bad(s: &[u8], d: u64) -> bool
+    requires { ⌜ d + 20 ≤ length (now s) ⌝ }
+    ensures { λ r. ⌜ r ≡ planeSizeBad (now (s .entry)) d ⌝ }
+{
+    let size = size_at(s, d);
+    if size == 0 {
+        return true;
+    }
+    if 2147483648 <= size {
+        return true;
+    }
+    false
+}
+
+// Any other dimension has a Size of 1 to 1,024, M and S of 1, and stored size Size.
+fn other_size_bad(s: &[u8], d: u64) -> bool
+    requires { ⌜ d + 20 ≤ length (now s) ⌝ }
+    ensures { λ r. ⌜ r ≡ otherSizeBad (now (s .entry)) d ⌝ }
+{
+    let size = size_at(s, d);
+    if size == 0 {
+        return true;
+    }
+    if most_size(letter_at(s, d)) < size {
+        return true;
+    }
+    if stored_at(s, d) != size {
+        return true;
+    }
+    false
+}
+
+// The Size or the stored size is not one that the letter may have.
 fn size_bad(s: &[u8], d: u64) -> bool
     requires { ⌜ d + 20 ≤ length (now s) ⌝ }
     ensures { λ r. ⌜ r ≡ sizeBad (now (s .entry)) d ⌝ }
 {
-    let letter = letter_at(s, d);
-    let size = size_at(s, d);
-    if is_plane(letter) {
-        if size == 0 {
-            return true;
-        }
-        if 2147483648 <= size {
-            return true;
-        }
-        return false;
+    if is_plane(letter_at(s, d)) {
+        return plane_size_bad(s, d);
     }
-    if size != 1 {
-        return true;
-    }
-    if stored_at(s, d) != 1 {
-        return true;
-    }
-    false
+    other_size_bad(s, d)
 }
 
 // The dimension at d is not well formed by itself.
@@ -340,6 +374,69 @@ fn some_closes(s: &[u8], e: u64) -> bool
     false
 }
 
+// Dimension k of the entry has layers.
+fn has_layers(s: &[u8], e: u64, k: u64) -> bool
+    requires { ⌜ dimensionPlace e k + 20 ≤ length (now s) ⌝ }
+    ensures { λ r. ⌜ r ≡ hasLayers (now (s .entry)) e k ⌝ }
+{
+    let d = dimension_place(e, k);
+    if is_plane(letter_at(s, d)) {
+        return false;
+    }
+    if 1 < size_at(s, d) {
+        return true;
+    }
+    false
+}
+
+// One of the entry's first j dimensions has layers.
+fn layers_below(s: &[u8], e: u64, j: u64) -> bool
+    requires { ⌜ dimensionPlace e j ≤ length (now s) ⌝ }
+    ensures { λ r. ⌜ r ≡ anyBelow j (hasLayers (now (s .entry)) e) ⌝ }
+{
+    let mut k: u64 = 0;
+    while k < j {
+        if has_layers(s, e, k) {
+            return true;
+        }
+        k += 1;
+    }
+    false
+}
+
+// Dimension j has layers, and so has one before it, or Y does not stand before it.
+fn layers_bad(s: &[u8], e: u64, j: u64) -> bool
+    requires { ⌜ dimensionPlace e j + 20 ≤ length (now s) ⌝ }
+    ensures { λ r. ⌜ r ≡ layersBad (now (s .entry)) e j ⌝ }
+{
+    if !has_layers(s, e, j) {
+        return false;
+    }
+    if layers_below(s, e, j) {
+        return true;
+    }
+    if !holds_below(s, e, 89, j) {
+        return true;
+    }
+    false
+}
+
+// A second dimension has layers, or one before Y.
+fn some_layers_bad(s: &[u8], e: u64) -> bool
+    requires { ⌜ nextEntry (now s) e ≤ length (now s) ⌝ }
+    ensures { λ r. ⌜ r ≡ anyBelow (dimensionCount (now (s .entry)) e) (layersBad (now (s .entry)) e) ⌝ }
+{
+    let n = dimension_count(s, e);
+    let mut k: u64 = 0;
+    while k < n {
+        if layers_bad(s, e, k) {
+            return true;
+        }
+        k += 1;
+    }
+    false
+}
+
 // Refusal 11 for the dimensions.
 pub fn dimensions_bad(s: &[u8], e: u64) -> bool
     requires { ⌜ nextEntry (now s) e ≤ length (now s) ⌝ }
@@ -352,6 +449,9 @@ pub fn dimensions_bad(s: &[u8], e: u64) -> bool
         return true;
     }
     if !some_closes(s, e) {
+        return true;
+    }
+    if some_layers_bad(s, e) {
         return true;
     }
     false
@@ -406,6 +506,52 @@ pub fn is_pyramid(s: &[u8], e: u64) -> bool
     false
 }
 
+// ---- the dimension with layers
+
+// The entry's sub-block has layers.
+pub fn is_layered(s: &[u8], e: u64) -> bool
+    requires { ⌜ nextEntry (now s) e ≤ length (now s) ⌝ }
+    ensures { λ r. ⌜ r ≡ isLayered (now (s .entry)) e ⌝ }
+{
+    let n = dimension_count(s, e);
+    layers_below(s, e, n)
+}
+
+// The number of the dimension with layers; the number of dimensions where there is none.
+fn layers_index(s: &[u8], e: u64) -> u64
+    requires { ⌜ nextEntry (now s) e ≤ length (now s) ⌝ }
+    ensures { λ r. ⌜ r ≡ layersIndex (now (s .entry)) e ⌝ }
+{
+    let n = dimension_count(s, e);
+    let mut k: u64 = 0;
+    while k < n {
+        if has_layers(s, e, k) {
+            return k;
+        }
+        k += 1;
+    }
+    n
+}
+
+// Its place; the place behind the entry where there is none.
+pub fn layers_place(s: &[u8], e: u64) -> u64
+    requires { ⌜ nextEntry (now s) e ≤ length (now s) ⌝ }
+    ensures { λ r. ⌜ r ≡ layersPlace (now (s .entry)) e ⌝ }
+{
+    dimension_place(e, layers_index(s, e))
+}
+
+// How many layers the sub-block has; 1 where no dimension has several.
+pub fn layer_count(s: &[u8], e: u64) -> u64
+    requires { ⌜ nextEntry (now s) e ≤ length (now s) ⌝ }
+    ensures { λ r. ⌜ (r ≡ layerCount (now (s .entry)) e) × (0 < r) × (r < 2 ^ 32) ⌝ }
+{
+    if is_layered(s, e) {
+        return size_at(s, layers_place(s, e));
+    }
+    1
+}
+
 // Bytes a pixel; 0 where the type is not listed.
 pub fn pixel_bytes(t: u64) -> u64
     ensures { λ r. ⌜ r ≡ pixelBytes t ⌝ }
@@ -457,6 +603,29 @@ pub fn m_index_of(s: &[u8], e: u64) -> MIndex
         return MIndex::M(fields::signed_of(start_at(s, d)));
     }
     MIndex::NoM
+}
+
+// The letter, the start and the size of the layers, all 0 where there are none.
+pub fn layers_of(s: &[u8], e: u64) -> Layers
+    requires { ⌜ nextEntry (now s) e ≤ length (now s) ⌝ }
+    ensures { λ r. ⌜ r ≡ layersOf (now (s .entry)) e ⌝ }
+{
+    if is_layered(s, e) {
+        let d = layers_place(s, e);
+        let letter = letter_at(s, d);
+        let start = fields::signed_of(start_at(s, d));
+        let size = size_at(s, d);
+        return Layers {
+            letter,
+            start,
+            size,
+        };
+    }
+    Layers {
+        letter: 0,
+        start: 0,
+        size: 0,
+    }
 }
 
 // The dimension record of the dimension at d. The bits of StartCoordinate stand beside it.

@@ -1,17 +1,20 @@
 -- Two sub-blocks that are the same, of entries that are: their sizes, their parts byte for byte, and whether they declare chunks. Assumes nothing.
-use Prim.Native.Nat.{ℕ, _+_, _≤_}
+use Prim.Native.Nat.{ℕ, _+_, _*_, _≤_, _<_}
 use mathlib.Core.Path.{_≡_, refl, ap}
 use mathlib.Core.List.{List}
 use native.Mathlib.Omega.{arith}
-use Rattle.format.specs.Entry.{dimensionCount}
-use Rattle.format.specs.SubBlock.{metadataSize, attachmentSize, dataSize, fixedPart, metadataPlace, pixelsPlace, attachmentPlace}
+use Rattle.format.specs.Entry.{dimensionCount, layerCount}
+use Rattle.format.specs.SubBlock.{metadataSize, attachmentSize, dataSize, fixedPart, layerSize, metadataPlace, pixelsPlace, layerPixelsPlace}
+use Rattle.format.specs.SubBlock.{attachmentPlace}
 use Rattle.format.specs.Container.{isContainer}
 use Rattle.format.specs.Masks.{hasChunks}
 use Rattle.format.specs.declared.Release.{Release}
 use Rattle.format.specs.declared.Release.the-variants.{R102, R12}
+use Rattle.subblocks.specs.Judged.{Filled}
+use Rattle.subblocks.proofs.PartLaws.{layer-ends}
 use Rattle.equivalent.specs.Same.{Same, SameEntry, SameBlock}
-use Rattle.equivalent.proofs.Reading.{same-inside, u32-inside, u64-inside}
-use Rattle.equivalent.proofs.Entries.{count-same}
+use Rattle.equivalent.proofs.Reading.{same-within, same-inside, u32-inside, u64-inside}
+use Rattle.equivalent.proofs.Entries.{count-same, layer-size-same}
 
 -- bytes that are the same declare a container or don't
 pub container-same : (n : ℕ) (ds : List ℕ) (a : ℕ) (bs : List ℕ) (b : ℕ) → Same n ds a bs b → isContainer ds a n ≡ isContainer bs b n
@@ -50,6 +53,14 @@ module _ {ds₀ : List ℕ} {e : ℕ} {ds : List ℕ} {q : ℕ} {bs₀ : List �
   pub pixels-same : Same (dataSize ds q) ds (pixelsPlace ds₀ e ds q) bs (pixelsPlace bs₀ f bs p)
   unfolding pixelsPlace
   pixels-same = rw (← metadata-size-same) (within (metadataSize ds q) (dataSize ds q) _ _ refl refl (omega arith))
+
+  -- those of layer l, where the entries are the same too
+  pub layer-same : SameEntry ds₀ e bs₀ f → Filled ds₀ e ds q → (l : ℕ) → l < layerCount ds₀ e
+      → Same (layerSize ds₀ e) ds (layerPixelsPlace ds₀ e ds q l) bs (layerPixelsPlace bs₀ f bs p l)
+  unfolding layerPixelsPlace
+  layer-same i j l h =
+      rw (← layer-size-same i (j .agreed .placed .listed .dimensions))
+      (same-within (dataSize ds q) ds _ bs _ pixels-same (l * layerSize ds₀ e) (layerSize ds₀ e) (layer-ends ds₀ e ds q j l h))
 
   pub attachment-same : Same (attachmentSize ds q) ds (attachmentPlace ds₀ e ds q) bs (attachmentPlace bs₀ f bs p)
   unfolding attachmentPlace pixelsPlace

@@ -22,6 +22,7 @@ use Rattle.plane.specs.Tiles.{area}
 use Rattle.plane.specs.Turns.{Painting, Kind}
 use Rattle.plane.specs.declared.Rect.{Rect}
 use Rattle.selection.specs.Select.{selects}
+use Rattle.selection.proofs.Starts.{selected-layer}
 use Rattle.tiles.specs.FileTile.{rectangle, meets, fileTile}
 use Rattle.question.specs.Question.{masksOn, requestWindow, askRows, typeBad, agreeRow, agreeRows}
 use Rattle.question.specs.Call.{Asked, choiceOf, chosen, callVerdict, askedWindow, askedBytes, selected, painted}
@@ -31,7 +32,7 @@ use Rattle.question.proofs.Calls.{room}
 use Rattle.equivalent.specs.Same.{SameScans}
 use Rattle.equivalent.specs.Claims.{SameRefusal, accepted, refused, askedOf, SameButPlaces}
 use Rattle.equivalent.proofs.Refusals.{refusal-self, both-accepted, row-same, both-same, below-same}
-use Rattle.equivalent.proofs.Entries.{type-same, rectangle-same, selects-same}
+use Rattle.equivalent.proofs.Entries.{type-same, rectangle-same, selects-same, asked-layer-same}
 use Rattle.equivalent.proofs.Records.{tiles-same}
 use Rattle.plane.proofs.Alike.{Alike, AlikeAll, compose-alike}
 use Rattle.equivalent.proofs.Tiles.{tile-alike, tiles-alike}
@@ -92,8 +93,10 @@ module _ {a b : Scan} (s : SameScans a b) (q : Asked) (t m : List ℕ) (v : call
   unfolding fileTile selects
   entry-alike k h o =
       let agrees = call-ok (askedOf a q) (length t) (length m) v .agree k h in
-      rw (← s .release)
-      (tile-alike (s .entry k h) (s .block k h) (tiled a (s .accepted) .tile k h) (masksOn (q .request .masks)) k
+      let e = s .entry k h in
+      let layer = selected-layer (a .file) (q .starts) (q .anyScene) (tileEntry a k) (right s k h) o in
+      rw (← s .release, ← asked-layer-same e (q .starts))
+      (tile-alike e (s .block k h) (tiled a (s .accepted) .tile k h) (masksOn (q .request .masks)) _ (layer .below) k
       (chosen-whole (a .file) (tileEntry a k) _ o)
       (askedWindow q) (askedBytes q) (room (askedOf a q) t m v .wide)
       (λ i. ap pixelBytes (chosen-type (a .file) (askedWindow q) (q .request .«pixel_type») (tileEntry a k) _ o agrees i)))

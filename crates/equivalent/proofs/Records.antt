@@ -28,7 +28,7 @@ use Rattle.judge.proofs.AcceptedFile.{tiled}
 use Rattle.equivalent.specs.Same.{SameMetadata, SameAttachmentEntry, SameAttachment, SameScans}
 use Rattle.equivalent.specs.Claims.{SameTile, SameListed, bytesAt}
 use Rattle.equivalent.proofs.Reading.{u32-inside}
-use Rattle.equivalent.proofs.Entries.{dimension-same, extent-same, type-same, pyramid-byte-same, count-same, place-same, m-same, x-same, y-same}
+use Rattle.equivalent.proofs.Entries.{dimension-same, extent-same, type-same, pyramid-byte-same, count-same, place-same, m-same, layers-same, x-same, y-same}
 use Rattle.equivalent.proofs.Blocks.{metadata-size-same, attachment-size-same, data-size-same, metadata-same, pixels-same, attachment-same}
 use Rattle.equivalent.proofs.Chunks.{mask-same}
 use Rattle.equivalent.proofs.Annexes.{xml-size-same, xml-attachment-size-same, xml-same, xml-attachment-same}
@@ -96,6 +96,7 @@ module _ (a b : Scan) (s : SameScans a b) where
           x = extent-same (a .file) (letterPlace (a .file) (tileEntry a n) 88) (b .file) (letterPlace (b .file) (tileEntry b n) 88) (x-same e d);
           y = extent-same (a .file) (letterPlace (a .file) (tileEntry a n) 89) (b .file) (letterPlace (b .file) (tileEntry b n) 89) (y-same e d);
           m = m-same e;
+          layers = layers-same e;
           metadata = metadata-size-same q;
           pixels = data-size-same q;
           attachment = attachment-size-same q;

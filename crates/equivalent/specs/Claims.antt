@@ -46,6 +46,7 @@ pub record SameTile (s t : Tile) : Type 0 where
   pub x : s .x ≡ t .x
   pub y : s .y ≡ t .y
   pub m : s .m ≡ t .m
+  pub layers : s .layers ≡ t .layers
   pub metadata : s .metadata .length ≡ t .metadata .length
   pub pixels : s .pixels .length ≡ t .pixels .length
   pub attachment : s .attachment .length ≡ t .attachment .length

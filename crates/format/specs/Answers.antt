@@ -4,7 +4,7 @@ use mathlib.Core.Path.{_≡_}
 use lib.IntN.{pos}
 use lib.Ieee.{ofBits, binary32}
 use Rattle.format.specs.Checks.{numberOf, placeOf, ifAccepted}
-use Rattle.format.specs.Records.{span, tileIf, dimensionIf, attachmentIf}
+use Rattle.format.specs.Records.{span, noLayers, tileIf, dimensionIf, attachmentIf}
 use Rattle.format.specs.declared.Verdict.{Verdict}
 use Rattle.format.specs.declared.Verdict.the-variants as Is
 use Rattle.format.specs.declared.Span.{Span}
@@ -64,6 +64,7 @@ noTile =
       x = noExtent;
       y = noExtent;
       m = NoM;
+      layers = noLayers;
       metadata = span 0 0;
       pixels = span 0 0;
       attachment = span 0 0;

@@ -74,12 +74,20 @@ tooFar bs d = ltb 6442450943 (biased (start bs d) + biased (size bs d))
 unfoldable pub isPlane : ℕ → Bool
 isPlane x = anyOf (eqb x 88 ∷ eqb x 89 ∷ [])
 
--- X and Y have Size at least 1; every other dimension has Size 1 and stored size 1
+-- the largest Size that a letter other than X and Y may have: 1 for M (77) and S (83), 1,024 for the others (paper 02, Req 10)
+unfoldable pub mostSize : ℕ → ℕ
+mostSize x = cond (eqb x 77) 1 (cond (eqb x 83) 1 1024)
+
+-- X and Y have Size at least 1
+unfoldable pub planeSizeBad : List ℕ → ℕ → Bool
+planeSizeBad bs d = anyOf (eqb (size bs d) 0 ∷ negative32 (size bs d) ∷ [])
+
+-- every other dimension has Size 1, or up to 1,024 where it is not M or S, and stored size Size
+unfoldable pub otherSizeBad : List ℕ → ℕ → Bool
+otherSizeBad bs d = anyOf (eqb (size bs d) 0 ∷ ltb (mostSize (letter bs d)) (size bs d) ∷ not (eqb (stored bs d) (size bs d)) ∷ [])
+
 unfoldable pub sizeBad : List ℕ → ℕ → Bool
-sizeBad bs d =
-    cond (isPlane (letter bs d))
-    (anyOf (eqb (size bs d) 0 ∷ negative32 (size bs d) ∷ []))
-    (anyOf (not (eqb (size bs d) 1) ∷ not (eqb (stored bs d) 1) ∷ []))
+sizeBad bs d = cond (isPlane (letter bs d)) (planeSizeBad bs d) (otherSizeBad bs d)
 
 unfoldable pub dimensionBad : List ℕ → ℕ → Bool
 dimensionBad bs d =
@@ -102,12 +110,27 @@ repeats bs e j = anyBelow j (hasLetter bs e (letter bs (dimensionPlace e j)))
 unfoldable pub closesPlane : List ℕ → ℕ → ℕ → Bool
 closesPlane bs e j = cond (hasLetter bs e 89 j) (anyBelow j (hasLetter bs e 88)) false
 
+-- ---- layers: several focal planes in one sub-block (paper 02, Req 10)
+
+-- dimension k has layers: it is not X or Y, and its Size is 2 or more. (A negative one is too, as the number of its bits; `otherSizeBad` refuses it.)
+unfoldable pub hasLayers : List ℕ → ℕ → ℕ → Bool
+hasLayers bs e k = cond (isPlane (letter bs (dimensionPlace e k))) false (ltb 1 (size bs (dimensionPlace e k)))
+
+-- dimension j has layers, and so has one before it, or Y (89) does not stand before it: entry order is storage order
+unfoldable pub layersBad : List ℕ → ℕ → ℕ → Bool
+layersBad bs e j =
+    cond (hasLayers bs e j)
+    (anyOf (anyBelow j (hasLayers bs e) ∷ not (anyBelow j (hasLetter bs e 89)) ∷ []))
+    false
+
+-- all of them: each by itself, no letter twice, X and then Y, one with layers at most
 unfoldable pub dimensionsBad : List ℕ → ℕ → Bool
 dimensionsBad bs e =
     anyOf
     (anyBelow (dimensionCount bs e) (λ k. dimensionBad bs (dimensionPlace e k)) ∷
     anyBelow (dimensionCount bs e) (repeats bs e) ∷
     not (anyBelow (dimensionCount bs e) (closesPlane bs e)) ∷
+    anyBelow (dimensionCount bs e) (layersBad bs e) ∷
     [])
 
 -- ---- the dimension of a letter
@@ -127,6 +150,24 @@ isPyramid bs e =
     (not (eqb (stored bs (letterPlace bs e 88)) (size bs (letterPlace bs e 88))) ∷
     not (eqb (stored bs (letterPlace bs e 89)) (size bs (letterPlace bs e 89))) ∷
     [])
+
+-- ---- the dimension with layers
+
+-- some dimension has layers: in an entry that is not refused it is one, and neither M nor S
+unfoldable pub isLayered : List ℕ → ℕ → Bool
+isLayered bs e = anyBelow (dimensionCount bs e) (hasLayers bs e)
+
+-- the number of the dimension with layers; DimensionCount where there is none
+unfoldable pub layersIndex : List ℕ → ℕ → ℕ
+layersIndex bs e = leastBelow (dimensionCount bs e) (hasLayers bs e)
+
+-- its place
+unfoldable pub layersPlace : List ℕ → ℕ → ℕ
+layersPlace bs e = dimensionPlace e (layersIndex bs e)
+
+-- how many layers there are; 1 where no dimension has several
+unfoldable pub layerCount : List ℕ → ℕ → ℕ
+layerCount bs e = cond (isLayered bs e) (size bs (layersPlace bs e)) 1
 
 -- ---- bytes a pixel by type; 0 where the type is not listed
 

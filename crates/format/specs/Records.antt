@@ -3,12 +3,14 @@ use Prim.Native.Nat.{ℕ, _+_}
 use mathlib.Core.List.{List, [], _∷_, _++_}
 use mathlib.Core.Bool.{cond}
 use lib.Dec.{eqb, leb}
+use lib.IntN.{pos}
 use lib.Ieee.{ofBits, binary32}
 use Rattle.format.specs.Bytes.{anyBelow, signed32}
 use Rattle.format.specs.Checks.{row, first, ifAccepted}
 use Rattle.format.specs.Scan.{Scan, blockFile}
 use Rattle.format.specs.File.{metadataPosition, attachmentDirectoryPosition}
 use Rattle.format.specs.Entry.{pixelType, filePosition, pyramidByte, dimensionCount, letter, start, size, coordinateBits, stored, dimensionPlace, hasLetter, letterPlace}
+use Rattle.format.specs.Entry.{isLayered, layersPlace}
 use Rattle.format.specs.SubBlock.{metadataSize, attachmentSize, dataSize, metadataPlace, pixelsPlace, attachmentPlace}
 use Rattle.format.specs.Masks.{maskFrom, hasChunks}
 use Rattle.format.specs.Directory.{tileCount, entryPlace}
@@ -21,6 +23,7 @@ use Rattle.format.specs.declared.Span.{Span}
 use Rattle.format.specs.declared.Extent.{Extent}
 use Rattle.format.specs.declared.MIndex.{MIndex}
 use Rattle.format.specs.declared.MIndex.the-variants.{NoM, M}
+use Rattle.format.specs.declared.Layers.{Layers}
 use Rattle.format.specs.declared.Tile.{Tile}
 use Rattle.format.specs.declared.TileMask.{TileMask}
 use Rattle.format.specs.declared.TileMask.the-variants.{Unmasked}
@@ -81,6 +84,16 @@ extentAt bs d = record { start = signed32 (start bs d); size = size bs d; stored
 unfoldable pub mIndexOf : List ℕ → ℕ → MIndex
 mIndexOf bs e = cond (anyBelow (dimensionCount bs e) (hasLetter bs e 77)) (M (signed32 (start bs (letterPlace bs e 77)))) NoM
 
+abbrev pub noLayers : Layers
+noLayers = record { letter = 0; start = pos 0; size = 0 }
+
+-- the letter, the start and the size of its layers, all 0 where it has none
+unfoldable pub layersOf : List ℕ → ℕ → Layers
+layersOf bs e =
+    cond (isLayered bs e)
+    (record { letter = letter bs (layersPlace bs e); start = signed32 (start bs (layersPlace bs e)); size = size bs (layersPlace bs e) })
+    noLayers
+
 -- of entry n, which stands at e of the file ds, and its sub-block at q of the file bs
 unfoldable pub tileAt : ℕ → List ℕ → ℕ → List ℕ → ℕ → Release → Tile
 tileAt n ds e bs q r =
@@ -94,6 +107,7 @@ tileAt n ds e bs q r =
       x = extentAt ds (letterPlace ds e 88);
       y = extentAt ds (letterPlace ds e 89);
       m = mIndexOf ds e;
+      layers = layersOf ds e;
       metadata = metadataSpan ds e bs q;
       pixels = pixelsSpan ds e bs q;
       attachment = attachmentSpan ds e bs q;

@@ -34,6 +34,7 @@ withoutMask t =
       x = t .x;
       y = t .y;
       m = t .m;
+      layers = t .layers;
       metadata = t .metadata;
       pixels = t .pixels;
       attachment = t .attachment;

@@ -1,12 +1,12 @@
 -- A sub-block: its fixed part, its copy of the entry, the refusals 15 and 16, and where its three parts lie.
--- The entry stands at e of the file ds, the sub-block at q of the file bs (today the same file).
+-- The entry stands at e of the file ds, the sub-block at q of the file bs.
 use Prim.Native.Nat.{ℕ, _+_, _*_, max}
 use mathlib.Core.List.{List, [], _∷_}
 use mathlib.Core.Bool.{Bool, not}
 use lib.Dec.{eqb, ltb}
 use Rattle.format.specs.Bytes.{u32At, u64At, sameRange, anyOf, negative32, negative64}
 use Rattle.format.specs.Segments.{room}
-use Rattle.format.specs.Entry.{pixelType, pixelBytes, dimensionCount, letterPlace, stored}
+use Rattle.format.specs.Entry.{pixelType, pixelBytes, dimensionCount, letterPlace, stored, layerCount}
 
 -- ---- MetadataSize Int 0, AttachmentSize Int 4, DataSize Long 8, the copy of the entry at 16, from the end of the header
 
@@ -41,9 +41,13 @@ subBlockBad ds e bs q =
 
 -- ---- refusal 16: sizes negative, don't fit, or DataSize wrong
 
--- stored X × stored Y × bytes a pixel, as a whole number
+-- the bytes of one layer, which is the whole where there are no layers: stored X × stored Y × bytes a pixel, as a whole number
+unfoldable pub layerSize : List ℕ → ℕ → ℕ
+layerSize ds e = stored ds (letterPlace ds e 88) * stored ds (letterPlace ds e 89) * pixelBytes (pixelType ds e)
+
+-- those of all layers: DataSize takes the extra factor
 unfoldable pub pixelsSize : List ℕ → ℕ → ℕ
-pixelsSize ds e = stored ds (letterPlace ds e 88) * stored ds (letterPlace ds e 89) * pixelBytes (pixelType ds e)
+pixelsSize ds e = layerCount ds e * layerSize ds e
 
 unfoldable pub contentsBad : List ℕ → ℕ → List ℕ → ℕ → Bool
 contentsBad ds e bs q =
@@ -62,6 +66,10 @@ metadataPlace ds e q = q + 32 + fixedPart (dimensionCount ds e)
 
 unfoldable pub pixelsPlace : List ℕ → ℕ → List ℕ → ℕ → ℕ
 pixelsPlace ds e bs q = metadataPlace ds e q + metadataSize bs q
+
+-- where the pixels of layer l, counted from 0, begin: the layers follow one another
+unfoldable pub layerPixelsPlace : List ℕ → ℕ → List ℕ → ℕ → ℕ → ℕ
+layerPixelsPlace ds e bs q l = pixelsPlace ds e bs q + l * layerSize ds e
 
 unfoldable pub attachmentPlace : List ℕ → ℕ → List ℕ → ℕ → ℕ
 attachmentPlace ds e bs q = pixelsPlace ds e bs q + dataSize bs q

@@ -51,10 +51,17 @@ pub struct Extent {
     pub stored: u64,
 }
 
-// A tile's place in the stack: the Start of its M, if it has one.
+// A tile's place above others: the Start of its M, if it has one.
 pub enum MIndex {
     NoM,
     M(i32),
+}
+
+// The layers of a tile, several planes in one sub-block: their letter, its Start, and how many there are. All 0 where the tile has none.
+pub struct Layers {
+    pub letter: u64,
+    pub start: i32,
+    pub size: u64,
 }
 
 // The tile record: what an entry of the sub-block directory and its sub-block say, under a release.
@@ -68,6 +75,7 @@ pub struct Tile {
     pub x: Extent,
     pub y: Extent,
     pub m: MIndex,
+    pub layers: Layers,
     pub metadata: Span,
     pub pixels: Span,
     pub attachment: Span,

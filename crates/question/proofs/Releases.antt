@@ -25,14 +25,14 @@ use Rattle.question.specs.declared.WindowRequest.{WindowRequest}
 
 -- ---- tiles that no mask changes
 
-module _ (ds : List ℕ) (k e : ℕ) (bs : List ℕ) (q : ℕ) where
+module _ (ds : List ℕ) (l k e : ℕ) (bs : List ℕ) (q : ℕ) where
   -- masks off: the release says nothing
-  off-tile : (r s : Release) → entryTile ds false k e bs q r ≡ entryTile ds false k e bs q s
+  off-tile : (r s : Release) → entryTile ds false l k e bs q r ≡ entryTile ds false l k e bs q s
   unfolding entryTile
   off-tile r s = refl
 
   -- under 1.02 there is no mask: on says the same as off
-  older-tile : (on : Bool) → entryTile ds on k e bs q R102 ≡ entryTile ds false k e bs q R102
+  older-tile : (on : Bool) → entryTile ds on l k e bs q R102 ≡ entryTile ds false l k e bs q R102
   unfolding entryTile maskOf hasChunks
   older-tile true = refl
   older-tile false = refl
@@ -87,11 +87,11 @@ module _ (a : Asked) where
 
   off-selected : (c : Masks) → masksOn c ≡ false → (r : Release) → selected (call r c) ≡ selected (call R12 c)
   unfolding fileTile
-  off-selected c e r = selected-by r R12 c c (λ k. rw e (off-tile _ k _ _ _ r R12))
+  off-selected c e r = selected-by r R12 c c (λ k. rw e (off-tile _ _ k _ _ _ r R12))
 
   older-selected : (c d : Masks) → selected (call R102 c) ≡ selected (call R102 d)
   unfolding fileTile
-  older-selected c d = selected-by R102 R102 c d (λ k. older-tile _ k _ _ _ (masksOn c) ∙ sym (older-tile _ k _ _ _ (masksOn d)))
+  older-selected c d = selected-by R102 R102 c d (λ k. older-tile _ _ k _ _ _ (masksOn c) ∙ sym (older-tile _ _ k _ _ _ (masksOn d)))
 
   -- ---- all of it, by the two
 

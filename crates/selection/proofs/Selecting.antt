@@ -17,14 +17,14 @@ use Rattle.format.proofs.Below.{all-zero, all-more, all-fails}
 use Rattle.format.proofs.Flags.{is-false, is-true-not, is-false-not}
 use Rattle.judge.proofs.AcceptedFile.{tiled-file}
 use Rattle.judge.proofs.EntryLoop.{AtEntry, at-start, at-next}
-use Rattle.selection.specs.Select.{startsThere, selects}
+use Rattle.selection.specs.Select.{hasStart, selects}
 use Rattle.selection.specs.Table.{Selection}
 
 -- ---- the loop over the letters: the tile of the entry at e starts in those below the i-th where the question says
 
 pub record Fitting (bs : List ℕ) (e : ℕ) (starts : List ℤ) (anyScene : Bool) (i : ℕ) : Type 0 where
   pub count : i ≤ 26
-  pub fits : allBelow i (λ k. startsThere bs e starts anyScene (65 + k)) ≡ true
+  pub fits : allBelow i (λ k. hasStart bs e starts anyScene (65 + k)) ≡ true
 
 module _ (bs : List ℕ) (e : ℕ) (starts : List ℤ) (anyScene : Bool) where
   pub fitting-start : Fitting bs e starts anyScene 0
@@ -32,7 +32,7 @@ module _ (bs : List ℕ) (e : ℕ) (starts : List ℤ) (anyScene : Bool) where
 
   module _ (i : ℕ) (w : Fitting bs e starts anyScene i) where
     -- r says whether it does in the next one
-    module _ (r : Bool) (j : r ≡ startsThere bs e starts anyScene (65 + i)) (l : i < 26) where
+    module _ (r : Bool) (j : r ≡ hasStart bs e starts anyScene (65 + i)) (l : i < 26) where
       pub fitting-next : not r ≡ false → Fitting bs e starts anyScene (i + 1)
       fitting-next h = record { count = omega arith; fits = all-more i _ (w .fits) (is-true-not r _ j h) }
 
@@ -40,7 +40,7 @@ module _ (bs : List ℕ) (e : ℕ) (starts : List ℤ) (anyScene : Bool) where
       unfolding selects
       fitting-fails h = go (isPyramid bs e)
         where
-          go : (b : Bool) → false ≡ cond b false (allBelow 26 (λ k. startsThere bs e starts anyScene (65 + k)))
+          go : (b : Bool) → false ≡ cond b false (allBelow 26 (λ k. hasStart bs e starts anyScene (65 + k)))
           go true = refl
           go false = sym (all-fails 26 i _ l (is-false-not r _ j h))
 

@@ -1,11 +1,13 @@
-// Selects the entries whose tiles a question asks for by its starts.
+// Selects the entries whose tiles a question asks for by its starts, and the layer of each.
 ghost use mathlib.Core.Path.{_≡_};
 ghost use Prim.Native.Nat.{_≤_};
 ghost use mathlib.Core.Bool.{false, cond};
 ghost use lib.ListN.{length};
 ghost use Rattle.format.specs.Entry.{nextEntry, dimensionsBad};
 ghost use Rattle.format.specs.Rules.{AcceptedFile};
-ghost use Rattle.selection.specs.Select.{askedStart, tileStart, free, startsThere, selects};
+ghost use Rattle.format.specs.Choice.{askedStart, askedLayer};
+ghost use Rattle.selection.specs.Select.{tileStart, startCount, free, hasStart, selects};
+ghost use Rattle.selection.specs.Layer.{HasAskedLayer};
 ghost use Rattle.selection.specs.Table.{Selection};
 
 // The question's start for the letter x, plus 2^31: one that is not given is 0.
@@ -52,22 +54,42 @@ fn is_free(any_scene: bool, x: u64) -> bool
     false
 }
 
-// The tile starts in the letter x where the question says.
-fn starts_there(s: &[u8], e: u64, starts: &[i32], any_scene: bool, x: u64) -> bool
+// How many starts the tile has in the letter x: 1 where it lacks it.
+fn start_count(s: &[u8], e: u64, x: u64) -> u64
     requires { ⌜ nextEntry (now s) e ≤ length (now s) ⌝ }
+    ensures { λ r. ⌜ r ≡ startCount (now (s .entry)) e x ⌝ }
+{
+    if entries::holds_letter(s, e, x) {
+        let d = entries::letter_place(s, e, x);
+        return entries::size_at(s, d);
+    }
+    1
+}
+
+// The tile has the question's start for the letter x. Its Size is read only where it starts before that.
+fn has_start(s: &[u8], e: u64, starts: &[i32], any_scene: bool, x: u64) -> bool
+    requires { ⌜ (nextEntry (now s) e ≤ length (now s)) × (dimensionsBad (now s) e ≡ false) ⌝ }
     requires { ⌜ (65 ≤ x) × (x ≤ 90) ⌝ }
-    ensures { λ r. ⌜ r ≡ startsThere (now (s .entry)) e (now (starts .entry)) «any_scene» x ⌝ }
+    ensures { λ r. ⌜ r ≡ hasStart (now (s .entry)) e (now (starts .entry)) «any_scene» x ⌝ }
 {
     if is_free(any_scene, x) {
         return true;
     }
-    if tile_start(s, e, x) == asked_start(starts, x) {
+    let start = tile_start(s, e, x);
+    let asked = asked_start(starts, x);
+    if start == asked {
+        return true;
+    }
+    if asked < start {
+        return false;
+    }
+    if asked - start < start_count(s, e, x) {
         return true;
     }
     false
 }
 
-// The entry at e is selected: no pyramid tile, and it starts where the question says in each letter.
+// The entry at e is selected: no pyramid tile, and it has the question's start in each letter.
 pub fn is_selected(s: &[u8], e: u64, starts: &[i32], any_scene: bool) -> bool
     requires { ⌜ (nextEntry (now s) e ≤ length (now s)) × (dimensionsBad (now s) e ≡ false) ⌝ }
     ensures { λ r. ⌜ r ≡ selects (now (s .entry)) (now (starts .entry)) «any_scene» e ⌝ }
@@ -77,7 +99,7 @@ pub fn is_selected(s: &[u8], e: u64, starts: &[i32], any_scene: bool) -> bool
     }
     let mut i: u64 = 0;
     while i < 26 {
-        if !starts_there(s, e, starts, any_scene, 65 + i) {
+        if !has_start(s, e, starts, any_scene, 65 + i) {
             return false;
         }
         i += 1;
@@ -111,4 +133,19 @@ pub fn select(s: &[u8], starts: &[i32], any_scene: bool, table: &mut [u64; 4096]
         k += 1;
     }
     n
+}
+
+// The layer of a tile that the question asks for: 0 where it has no layers.
+pub fn asked_layer(s: &[u8], e: u64, starts: &[i32]) -> u64
+    requires { ⌜ (nextEntry (now s) e ≤ length (now s)) × (dimensionsBad (now s) e ≡ false) ⌝ }
+    requires { ⌜ HasAskedLayer (now s) e (now starts) ⌝ }
+    ensures { λ r. ⌜ r ≡ askedLayer (now (s .entry)) e (now (starts .entry)) ⌝ }
+{
+    if entries::is_layered(s, e) {
+        let d = entries::layers_place(s, e);
+        let asked = asked_start(starts, entries::letter_at(s, d));
+        let start = entries::biased_start(s, d);
+        return asked - start;
+    }
+    0
 }

@@ -14,18 +14,19 @@ use Rattle.format.specs.declared.Verdict.{Verdict}
 use Rattle.format.specs.declared.Verdict.the-variants.{Accepted}
 use Rattle.format.specs.declared.TileMask.{TileMask}
 use Rattle.format.specs.declared.TileMask.the-variants.{Unmasked}
-use native.Mathlib.Nat.{add-sub-cancel-left}
+use native.Mathlib.Nat.{add-sub-cancel-left, mul-comm, mul-assoc, mul-pos, mul-le-mul, mul-le-mul-right}
 use native.Mathlib.Omega.{arith}
 use lib.ListN.{length}
 use lib.Dec.{eqb, ltb}
-use borrow.Author.Tests.{lt-ltb, le-ltb, ltb-false, eqb-true, not-false}
+use borrow.Author.Tests.{lt-ltb, le-ltb, ltb-false, leb-false, eqb-true, not-false}
 use Rattle.format.specs.Segments.{room}
-use Rattle.format.specs.Entry.{pixelType, pixelBytes, dimensionCount, nextEntry, letterPlace, stored}
-use Rattle.format.specs.SubBlock.{metadataSize, attachmentSize, dataSize, fixedPart, subBlockBad, pixelsSize, contentsBad, metadataPlace, pixelsPlace}
-use Rattle.format.specs.SubBlock.{attachmentPlace}
-use Rattle.format.proofs.Below.{none}
+use Rattle.format.specs.Entry.{pixelType, pixelBytes, dimensionCount, nextEntry, letterPlace, stored, isLayered, layerCount}
+use Rattle.format.specs.SubBlock.{metadataSize, attachmentSize, dataSize, fixedPart, subBlockBad, layerSize, pixelsSize, contentsBad, metadataPlace}
+use Rattle.format.specs.SubBlock.{pixelsPlace, layerPixelsPlace, attachmentPlace}
+use Rattle.format.proofs.Below.{by-bool, none}
 use Rattle.format.proofs.Flags.{is-true-not, is-false-not}
-use Rattle.entries.proofs.EntryLaws.{dimensions-ok}
+use Rattle.fields.proofs.Products.{below}
+use Rattle.entries.proofs.EntryLaws.{dimensions-ok, pixel-bytes-few, layers-placed, one-plane, several-planes}
 use Rattle.subblocks.specs.Judged.{Listed, Placed, CopyAgrees, Filled}
 
 -- the entry's fixed part lies in its file
@@ -41,14 +42,33 @@ module _ (ds : List ℕ) (e : ℕ) (h : Listed ds e) where
   pub y-stored : (d y : ℕ) → d ≡ letterPlace ds e 89 → y ≡ stored ds d → y < 2 ^ 32
   y-stored d y i j = let k : y ≡ stored ds (letterPlace ds e 89) = cc in omega (arith, dimensions-ok ds e (h .dimensions) .y-sized .stored-fits)
 
+  pub sides-fit : (d c x y : ℕ) → d ≡ letterPlace ds e 88 → x ≡ stored ds d → c ≡ letterPlace ds e 89 → y ≡ stored ds c → x * y < 2 ^ 64
+  sides-fit d c x y i j k l = omega (arith, below 32 (x-stored d x i j) (y-stored c y k l))
+
   pub bytes-some : (t b : ℕ) → t ≡ pixelType ds e → b ≡ pixelBytes t → 0 < b
   bytes-some t b i j = let k : (b ≡ 0) → ⊥ = λ z. h .pixel (rw (← i) (sym j ∙ z)) in omega (arith, k)
 
--- r says whether z is x times y times b, which were read as the stored sizes of X, at u, and Y, at v, and as the bytes a pixel of the type t
-pub product-read : (ds : List ℕ) (e z u v x y t b : ℕ) (r : Bool) → u ≡ letterPlace ds e 88 → x ≡ stored ds u → v ≡ letterPlace ds e 89 → y ≡ stored ds v
-    → t ≡ pixelType ds e → b ≡ pixelBytes t → r ≡ eqb z (x * y * b) → r ≡ eqb z (pixelsSize ds e)
-unfolding pixelsSize
-product-read ds e z u v x y t b r i j k l m n o = rw (← i, ← j, ← k, ← l, ← m, ← n) o
+-- bytes a pixel, times a number of layers
+pub bytes-fit : (t b n : ℕ) → b ≡ pixelBytes t → n < 2 ^ 32 → b * n < 2 ^ 64
+bytes-fit t b n i h = let few : b ≤ 24 = rw i (pixel-bytes-few t) in omega (arith, mul-le-mul few h)
+
+pub bytes-positive : (b n : ℕ) → 0 < b → 0 < n → 0 < b * n
+bytes-positive b n h k = mul-pos h k
+
+-- the bytes of one layer, and of n of them, by what was read: x and y, the stored sizes of X, at u, and Y, at v, and b, the bytes a pixel of the type t
+module _ (ds : List ℕ) (e u v x y t b : ℕ) (i : u ≡ letterPlace ds e 88) (j : x ≡ stored ds u) (k : v ≡ letterPlace ds e 89) (l : y ≡ stored ds v)
+    (m : t ≡ pixelType ds e) (o : b ≡ pixelBytes t) where
+  pub layer-read : x * y * b ≡ layerSize ds e
+  unfolding layerSize
+  layer-read = rw (← i, ← j, ← k, ← l, ← m, ← o)
+
+  pub layer-fits : layerSize ds e < 2 ^ 64 → x * y * b < 2 ^ 64
+  layer-fits h = rw (← layer-read) at h
+
+  -- r says whether z is x times y times b times n
+  pub product-read : (z n : ℕ) (r : Bool) → n ≡ layerCount ds e → r ≡ eqb z (x * y * (b * n)) → r ≡ eqb z (pixelsSize ds e)
+  unfolding pixelsSize
+  product-read z n r p h = rw (← p, ← layer-read, mul-comm n (x * y * b), mul-assoc (x * y) b n) h
 
 -- the fixed part F
 pub record Fixed (ds : List ℕ) (e : ℕ) (bs : List ℕ) (q : ℕ) : Type 0 where
@@ -104,6 +124,43 @@ filled-in ds e bs q f =
       attachment = omega arith;
       size = eqb-true _ _ (not-false _ (none _ (f .contents) 4));
     }
+
+-- ---- layers: the bytes of each lie among those of all
+
+-- n parts of b bytes: the i-th ends among them
+part-end : (i n b : ℕ) → i < n → i * b + b ≤ n * b
+part-end i n b h = omega (arith, mul-le-mul-right b h)
+
+planes-some : (ds : List ℕ) (e : ℕ) → 0 < layerCount ds e
+planes-some ds e =
+    by-bool (isLayered ds e) (λ h. rw (several-planes ds e h) (omega (arith, layers-placed ds e h .several))) (λ h. rw (one-plane ds e h) (omega arith))
+
+module _ (ds : List ℕ) (e : ℕ) (bs : List ℕ) (q : ℕ) (f : Filled ds e bs q) where
+  pub layer-ends : (l : ℕ) → l < layerCount ds e → l * layerSize ds e + layerSize ds e ≤ dataSize bs q
+  unfolding pixelsSize
+  layer-ends l h = rw (filled-in ds e bs q f .size) (part-end l (layerCount ds e) (layerSize ds e) h)
+
+  pub layer-in : (l : ℕ) → l < layerCount ds e → layerPixelsPlace ds e bs q l + layerSize ds e ≤ pixelsPlace ds e bs q + dataSize bs q
+  unfolding layerPixelsPlace
+  layer-in l h = omega (arith, layer-ends l h)
+
+  -- an address has 64 bits, and DataSize is not negative
+  pub layer-small : layerSize ds e < 2 ^ 63
+  unfolding contentsBad
+  layer-small = omega (arith, layer-ends 0 (planes-some ds e), leb-false (2 ^ 63) (dataSize bs q) (none _ (f .contents) 2))
+
+  -- where the pixels begin, and n bytes a layer, as they were read
+  pub layer-within : (p n l : ℕ) → l < layerCount ds e → p ≡ pixelsPlace ds e bs q → n ≡ layerSize ds e → p + l * n ≤ length bs
+  layer-within p n l h i j = rw (i, j) (omega (arith, layer-ends l h, filled-in ds e bs q f .pixels))
+
+  -- where the first begins the pixels do
+  pub first-layer : (l p : ℕ) → l ≡ 0 → p ≡ pixelsPlace ds e bs q → p ≡ layerPixelsPlace ds e bs q l
+  unfolding layerPixelsPlace
+  first-layer l p z i = rw z (omega arith)
+
+  pub later-layer : (l p n : ℕ) → p ≡ pixelsPlace ds e bs q → n ≡ layerSize ds e → p + l * n ≡ layerPixelsPlace ds e bs q l
+  unfolding layerPixelsPlace
+  later-layer l p n i j = rw (i, j)
 
 -- ---- refusal 16: the room r against F, which is f, and the sizes m, d and a
 

@@ -9,9 +9,9 @@ ghost use Prim.Native.Nat.{_+_, _<_, _≤_, _^_};
 ghost use lib.ListN.{length};
 ghost use lib.Dec.{eqb};
 ghost use Rattle.format.specs.Checks.{first};
-ghost use Rattle.format.specs.Entry.{dimensionCount, nextEntry};
-ghost use Rattle.format.specs.SubBlock.{metadataSize, attachmentSize, dataSize, fixedPart, copyBad, subBlockBad, pixelsSize, contentsBad};
-ghost use Rattle.format.specs.SubBlock.{metadataPlace, pixelsPlace, attachmentPlace};
+ghost use Rattle.format.specs.Entry.{dimensionCount, nextEntry, layerCount};
+ghost use Rattle.format.specs.SubBlock.{metadataSize, attachmentSize, dataSize, fixedPart, copyBad, subBlockBad, layerSize, pixelsSize, contentsBad};
+ghost use Rattle.format.specs.SubBlock.{metadataPlace, pixelsPlace, layerPixelsPlace, attachmentPlace};
 ghost use Rattle.format.specs.Directory.{attachmentRows};
 ghost use Rattle.format.specs.Masks.{hasChunks};
 ghost use Rattle.format.specs.Records.{metadataSpan, pixelsSpan, attachmentSpan, maskOf, tileAt};
@@ -86,7 +86,7 @@ pub fn sub_block_bad(d: &[u8], e: u64, s: &[u8], q: u64) -> bool
     false
 }
 
-// Whether DataSize is stored X times stored Y times bytes a pixel.
+// Whether DataSize is stored X times stored Y times bytes a pixel, for each layer.
 fn is_pixels_size(d: &[u8], e: u64, size: u64) -> bool
     requires { ⌜ Listed (now d) e ⌝ }
     ensures { λ r. ⌜ r ≡ eqb size (pixelsSize (now (d .entry)) e) ⌝ }
@@ -94,7 +94,8 @@ fn is_pixels_size(d: &[u8], e: u64, size: u64) -> bool
     let x = entries::stored_at(d, entries::letter_place(d, e, 88));
     let y = entries::stored_at(d, entries::letter_place(d, e, 89));
     let bytes = entries::pixel_bytes(entries::pixel_type(d, e));
-    fields::is_product(size, x, y, bytes)
+    let layers = entries::layer_count(d, e);
+    fields::is_product(size, x, y, bytes * layers)
 }
 
 // Refusal 16.
@@ -140,6 +141,29 @@ pub fn pixels_place(d: &[u8], e: u64, s: &[u8], q: u64) -> u64
     ensures { λ r. ⌜ r ≡ pixelsPlace (now (d .entry)) e (now (s .entry)) q ⌝ }
 {
     metadata_place(d, e, s, q) + metadata_size(s, q)
+}
+
+// The bytes of one layer, which lie in the sub-block.
+fn layer_size(d: &[u8], e: u64) -> u64
+    requires { ⌜ Listed (now d) e × (layerSize (now d) e < 2 ^ 64) ⌝ }
+    ensures { λ r. ⌜ r ≡ layerSize (now (d .entry)) e ⌝ }
+{
+    let x = entries::stored_at(d, entries::letter_place(d, e, 88));
+    let y = entries::stored_at(d, entries::letter_place(d, e, 89));
+    let bytes = entries::pixel_bytes(entries::pixel_type(d, e));
+    x * y * bytes
+}
+
+// Where the pixels of layer l begin.
+pub fn layer_pixels_place(d: &[u8], e: u64, s: &[u8], q: u64, l: u64) -> u64
+    requires { ⌜ Filled (now d) e (now s) q × (l < layerCount (now d) e) ⌝ }
+    ensures { λ r. ⌜ r ≡ layerPixelsPlace (now (d .entry)) e (now (s .entry)) q l ⌝ }
+{
+    let first = pixels_place(d, e, s, q);
+    if l == 0 {
+        return first;
+    }
+    first + l * layer_size(d, e)
 }
 
 // Where the attachment begins.
@@ -237,6 +261,7 @@ pub fn tile_at(n: u64, d: &[u8], e: u64, s: &[u8], q: u64, release: Release) -> 
     let x = entries::letter_extent(d, e, 88);
     let y = entries::letter_extent(d, e, 89);
     let m = entries::m_index_of(d, e);
+    let layers = entries::layers_of(d, e);
     let pixel_type = entries::pixel_type(d, e);
     let pyramid = entries::pyramid_byte(d, e);
     let dimensions = entries::dimension_count(d, e);
@@ -254,6 +279,7 @@ pub fn tile_at(n: u64, d: &[u8], e: u64, s: &[u8], q: u64, release: Release) -> 
         x,
         y,
         m,
+        layers,
         metadata,
         pixels,
         attachment,

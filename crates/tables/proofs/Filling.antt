@@ -29,19 +29,19 @@ use Rattle.tables.specs.Steps.{TileAt, RowRoom, TilePut, dimensionOf, Di
 use Rattle.tables.proofs.RowLaws.{rows-none, rows-more, groups-none, groups-more, below-next, below-rises}
 
 -- a row's width times a number of rows
-pub product-fits : (w n : ℕ) → w ≤ 22 → n ≤ 65536 → w * n < 2 ^ 64
-product-fits w n h l = let m : w * n ≤ 22 * 65536 = mul-le-mul h l in omega arith
+pub product-fits : (w n : ℕ) → w ≤ 24 → n ≤ 65536 → w * n < 2 ^ 64
+product-fits w n h l = let m : w * n ≤ 24 * 65536 = mul-le-mul h l in omega arith
 
 -- ---- one tile
 
 -- its numbers, and its signed ones, as a row that is put
 pub numbers-put : (r : Tile) (k : ℕ) (row : List ℕ) {before after : List ℕ} → row ≡ tileNumbers r
-    → Stretch 0 (22 * k) (length row) row before after → Stretch 0 (22 * k) 22 (tileNumbers r) before after
+    → Stretch 0 (24 * k) (length row) row before after → Stretch 0 (24 * k) 24 (tileNumbers r) before after
 unfolding tileNumbers
 numbers-put r k row f m = rw f at m
 
 pub starts-put : (r : Tile) (k : ℕ) (row : List ℤ) {before after : List ℤ} → row ≡ tileStarts r
-    → Stretch (pos 0) (3 * k) (length row) row before after → Stretch (pos 0) (3 * k) 3 (tileStarts r) before after
+    → Stretch (pos 0) (4 * k) (length row) row before after → Stretch (pos 0) (4 * k) 4 (tileStarts r) before after
 unfolding tileStarts
 starts-put r k row f m = rw f at m
 
@@ -75,7 +75,7 @@ module _ (bs : List ℕ) (k e : ℕ) (t : TileAt bs k e) where
     tile-is q r f g = g ∙ rw (f, t .place)
 
     pub tile-put : (r : Tile) {numbers₀ numbers : List ℕ} {starts₀ starts : List ℤ} → r ≡ tileRecord (scanOf bs rel) k
-        → Stretch 0 (22 * k) 22 (tileNumbers r) numbers₀ numbers → Stretch (pos 0) (3 * k) 3 (tileStarts r) starts₀ starts
+        → Stretch 0 (24 * k) 24 (tileNumbers r) numbers₀ numbers → Stretch (pos 0) (4 * k) 4 (tileStarts r) starts₀ starts
         → TilePut (scanOf bs rel) k numbers₀ starts₀ numbers starts
     tile-put r f m n = record { numbers-are = rw f at m; starts-are = rw f at n }
 
@@ -94,8 +94,8 @@ module _ (bs : List ℕ) (k e : ℕ) (t : TileAt bs k e) where
 
 pub record TilesFilling (bs : List ℕ) (rel : Release) (n e k : ℕ) (numbers₀ : List ℕ) (starts₀ : List ℤ) (numbers : List ℕ) (starts : List ℤ) : Type 0 where
   pub at : AtEntry bs n e k
-  pub numbers-are : Rows 0 22 0 k (λ i. tileNumbers (tileRecord (scanOf bs rel) i)) numbers₀ numbers
-  pub starts-are : Rows (pos 0) 3 0 k (λ i. tileStarts (tileRecord (scanOf bs rel) i)) starts₀ starts
+  pub numbers-are : Rows 0 24 0 k (λ i. tileNumbers (tileRecord (scanOf bs rel) i)) numbers₀ numbers
+  pub starts-are : Rows (pos 0) 4 0 k (λ i. tileStarts (tileRecord (scanOf bs rel) i)) starts₀ starts
 
 module _ (bs : List ℕ) (rel : Release) (n : ℕ) (numbers₀ : List ℕ) (starts₀ : List ℤ) where
   pub tiles-start : (e : ℕ) → e ≡ entryPlace bs 0 → TilesFilling bs rel n e 0 numbers₀ starts₀ numbers₀ starts₀
@@ -108,7 +108,7 @@ module _ (bs : List ℕ) (rel : Release) (n : ℕ) (numbers₀ : List ℕ) (star
     pub tiles-all : n ≡ tileCount bs → n ≤ tileCount bs
     tiles-all f = omega arith
 
-    pub tiles-room : RowRoom 22 3 n numbers₀ starts₀ → k < n → RowRoom 22 3 (k + 1) numbers starts
+    pub tiles-room : RowRoom 24 4 n numbers₀ starts₀ → k < n → RowRoom 24 4 (k + 1) numbers starts
     tiles-room r l = record {
       numbers-fit = omega (arith, r .numbers-fit, w .numbers-are .size-is);
       starts-fit = omega (arith, r .starts-fit, w .starts-are .size-is);
@@ -118,8 +118,8 @@ module _ (bs : List ℕ) (rel : Release) (n : ℕ) (numbers₀ : List ℕ) (star
         → TilesFilling bs rel n q (k + 1) numbers₀ starts₀ numbers′ starts′
     tiles-next q numbers′ starts′ l f p = record {
       at = at-next bs n e k (w .at) q l f;
-      numbers-are = rows-more 0 22 0 _ numbers₀ k numbers numbers′ (w .numbers-are) (rw (zero-add k) (p .numbers-are));
-      starts-are = rows-more (pos 0) 3 0 _ starts₀ k starts starts′ (w .starts-are) (rw (zero-add k) (p .starts-are));
+      numbers-are = rows-more 0 24 0 _ numbers₀ k numbers numbers′ (w .numbers-are) (rw (zero-add k) (p .numbers-are));
+      starts-are = rows-more (pos 0) 4 0 _ starts₀ k starts starts′ (w .starts-are) (rw (zero-add k) (p .starts-are));
     }
 
     pub tiles-end : n ≡ tileCount bs → n ≤ k → TileTable (scanOf bs rel) numbers₀ starts₀ numbers starts
@@ -260,13 +260,13 @@ module _ (bs : List ℕ) (n : ℕ) (f : n ≡ tileCount bs) where
   pub tiles-few : AcceptedFile bs → n ≤ 65536
   tiles-few a = omega (arith, tiled-file bs a .few)
 
-  module _ (b : Bool) (x y : ℕ) (h : b ≡ short n 22 3 x y) where
-    pub tiles-short : b ≡ short (tileCount bs) 22 3 x y
+  module _ (b : Bool) (x y : ℕ) (h : b ≡ short n 24 4 x y) where
+    pub tiles-short : b ≡ short (tileCount bs) 24 4 x y
     tiles-short = rw (← f) h
 
-  pub tiles-enough : (b : Bool) (numbers : List ℕ) (starts : List ℤ) → b ≡ short n 22 3 (length numbers) (length starts) → b ≡ false
-      → RowRoom 22 3 n numbers starts
-  tiles-enough b numbers starts h t = short-no b n 22 3 numbers starts h t
+  pub tiles-enough : (b : Bool) (numbers : List ℕ) (starts : List ℤ) → b ≡ short n 24 4 (length numbers) (length starts) → b ≡ false
+      → RowRoom 24 4 n numbers starts
+  tiles-enough b numbers starts h t = short-no b n 24 4 numbers starts h t
 
   -- and r dimensions
   pub total-rows : (rel : Release) {numbers₀ numbers : List ℕ} {starts₀ starts : List ℤ} → DimensionTable bs (dimensionOf bs) n numbers₀ starts₀ numbers starts

@@ -46,11 +46,13 @@ tileNumbers t =
     maskNumbers (t .mask) .width ∷
     maskNumbers (t .mask) .height ∷
     maskNumbers (t .mask) .stride ∷
+    t .layers .letter ∷
+    t .layers .size ∷
     []
 
--- its signed numbers: the Starts of X, Y and M
+-- its signed numbers: the Starts of X, Y, M and of the layers
 unfoldable pub tileStarts : Tile → List ℤ
-tileStarts t = t .x .start ∷ t .y .start ∷ mIndexNumbers (t .m) .start ∷ []
+tileStarts t = t .x .start ∷ t .y .start ∷ mIndexNumbers (t .m) .start ∷ t .layers .start ∷ []
 
 -- ---- the dimension record, of a dimension of entry n
 

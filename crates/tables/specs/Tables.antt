@@ -40,14 +40,14 @@ pub record TableAnswered (v : Verdict) (rows : ℕ) (r : Table) : Type 0 where
   pub verdict-is : VerdictAnswered v (r .verdict)
   pub rows-are : r .rows ≡ ifAccepted v rows 0
 
--- ---- tiles: 22 numbers and 3 signed ones a tile, in directory order
+-- ---- tiles: 24 numbers and 4 signed ones a tile, in directory order
 
 unfoldable pub tilesVerdict : Scan → ℕ → ℕ → Verdict
-tilesVerdict sc numbers starts = tableVerdict sc (short (tileCount (sc .file)) 22 3 numbers starts)
+tilesVerdict sc numbers starts = tableVerdict sc (short (tileCount (sc .file)) 24 4 numbers starts)
 
 pub record TileTable (sc : Scan) (numbers₀ : List ℕ) (starts₀ : List ℤ) (numbers : List ℕ) (starts : List ℤ) : Type 0 where
-  pub numbers-are : Rows 0 22 0 (tileCount (sc .file)) (λ k. tileNumbers (tileRecord sc k)) numbers₀ numbers
-  pub starts-are : Rows (pos 0) 3 0 (tileCount (sc .file)) (λ k. tileStarts (tileRecord sc k)) starts₀ starts
+  pub numbers-are : Rows 0 24 0 (tileCount (sc .file)) (λ k. tileNumbers (tileRecord sc k)) numbers₀ numbers
+  pub starts-are : Rows (pos 0) 4 0 (tileCount (sc .file)) (λ k. tileStarts (tileRecord sc k)) starts₀ starts
 
 abbrev pub TileArrays : Scan → List ℕ → List ℤ → List ℕ → List ℤ → Type 0
 TileArrays sc numbers₀ starts₀ numbers starts =

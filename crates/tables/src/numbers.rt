@@ -56,7 +56,7 @@ fn mask_numbers(m: TileMask) -> MaskNumbers
 }
 
 // The record's numbers.
-pub fn tile_numbers(t: Tile) -> [u64; 22]
+pub fn tile_numbers(t: Tile) -> [u64; 24]
     ensures { λ r. ⌜ r ≡ tileNumbers t ⌝ }
 {
     let x = t.x;
@@ -68,6 +68,7 @@ pub fn tile_numbers(t: Tile) -> [u64; 22]
     let index = m_index_numbers(m);
     let k = t.mask;
     let mask = mask_numbers(k);
+    let layers = t.layers;
     [
         t.entry,
         t.place,
@@ -91,18 +92,21 @@ pub fn tile_numbers(t: Tile) -> [u64; 22]
         mask.width,
         mask.height,
         mask.stride,
+        layers.letter,
+        layers.size,
     ]
 }
 
-// Its signed numbers: where X, Y and M start.
-pub fn tile_starts(t: Tile) -> [i32; 3]
+// Its signed numbers: where X, Y, M and the layers start.
+pub fn tile_starts(t: Tile) -> [i32; 4]
     ensures { λ r. ⌜ r ≡ tileStarts t ⌝ }
 {
     let x = t.x;
     let y = t.y;
     let m = t.m;
     let index = m_index_numbers(m);
-    [x.start, y.start, index.start]
+    let layers = t.layers;
+    [x.start, y.start, index.start, layers.start]
 }
 
 // ---- the dimension record of a dimension of entry n

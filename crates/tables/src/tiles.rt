@@ -28,7 +28,7 @@ pub struct Table {
 
 // Whether arrays of these lengths are too short for n rows of w numbers and v signed ones.
 pub fn too_short(n: u64, w: u64, v: u64, numbers: usize, starts: usize) -> bool
-    requires { ⌜ (n ≤ 65536) × (w ≤ 22) × (v ≤ 22) ⌝ }
+    requires { ⌜ (n ≤ 65536) × (w ≤ 24) × (v ≤ 24) ⌝ }
     ensures { λ r. ⌜ r ≡ short n w v numbers starts ⌝ }
 {
     if (numbers as u64) < w * n {
@@ -51,26 +51,26 @@ fn tile_of(s: &[u8], release: Release, k: u64, e: u64) -> Tile
 
 // Puts a record's numbers into row k.
 fn put_tile_numbers(t: Tile, k: u64, numbers: &mut [u64])
-    requires { ⌜ (k < 4096) × (22 * (k + 1) ≤ length (now numbers)) ⌝ }
-    ensures { λ _. ⌜ Stretch 0 (22 * k) 22 (tileNumbers t) (now (numbers .entry)) (now (numbers .exit)) ⌝ }
+    requires { ⌜ (k < 4096) × (24 * (k + 1) ≤ length (now numbers)) ⌝ }
+    ensures { λ _. ⌜ Stretch 0 (24 * k) 24 (tileNumbers t) (now (numbers .entry)) (now (numbers .exit)) ⌝ }
 {
     let row = tile_numbers(t);
-    put_numbers(numbers, (22 * k) as usize, &row);
+    put_numbers(numbers, (24 * k) as usize, &row);
 }
 
 // Puts its signed numbers into row k.
 fn put_tile_starts(t: Tile, k: u64, starts: &mut [i32])
-    requires { ⌜ (k < 4096) × (3 * (k + 1) ≤ length (now starts)) ⌝ }
-    ensures { λ _. ⌜ Stretch (pos 0) (3 * k) 3 (tileStarts t) (now (starts .entry)) (now (starts .exit)) ⌝ }
+    requires { ⌜ (k < 4096) × (4 * (k + 1) ≤ length (now starts)) ⌝ }
+    ensures { λ _. ⌜ Stretch (pos 0) (4 * k) 4 (tileStarts t) (now (starts .entry)) (now (starts .exit)) ⌝ }
 {
     let row = tile_starts(t);
-    put_starts(starts, (3 * k) as usize, &row);
+    put_starts(starts, (4 * k) as usize, &row);
 }
 
 // Puts the record of tile k, whose entry stands at e, into row k.
 fn put_tile(s: &[u8], release: Release, k: u64, e: u64, numbers: &mut [u64], starts: &mut [i32])
     requires { ⌜ (verdict (scanOf (now s) release) ≡ Accepted) × TileAt (now s) k e ⌝ }
-    requires { ⌜ RowRoom 22 3 (k + 1) (now numbers) (now starts) ⌝ }
+    requires { ⌜ RowRoom 24 4 (k + 1) (now numbers) (now starts) ⌝ }
     ensures { λ _. ⌜ TilePut (scanOf (now (s .entry)) release) k (now (numbers .entry)) (now (starts .entry)) (now (numbers .exit)) (now (starts .exit)) ⌝ }
 {
     let t = tile_of(s, release, k, e);
@@ -81,7 +81,7 @@ fn put_tile(s: &[u8], release: Release, k: u64, e: u64, numbers: &mut [u64], sta
 // Puts the records of the n tiles of an accepted file.
 fn put_tiles(s: &[u8], release: Release, n: u64, numbers: &mut [u64], starts: &mut [i32])
     requires { ⌜ (verdict (scanOf (now s) release) ≡ Accepted) × (n ≡ tileCount (now s)) ⌝ }
-    requires { ⌜ RowRoom 22 3 n (now numbers) (now starts) ⌝ }
+    requires { ⌜ RowRoom 24 4 n (now numbers) (now starts) ⌝ }
     ensures { λ _. ⌜ TileTable (scanOf (now (s .entry)) release) (now (numbers .entry)) (now (starts .entry)) (now (numbers .exit)) (now (starts .exit)) ⌝ }
 {
     let mut e = directory::first_entry(s);
@@ -93,7 +93,7 @@ fn put_tiles(s: &[u8], release: Release, n: u64, numbers: &mut [u64], starts: &m
     }
 }
 
-// Every tile record under a release: 22 numbers and 3 signed ones a tile, in directory order. Refused, 22 where an array is too short, it changes neither.
+// Every tile record under a release: 24 numbers and 4 signed ones a tile, in directory order. Refused, 22 where an array is too short, it changes neither.
 pub fn tiles(s: &[u8], release: Release, numbers: &mut [u64], starts: &mut [i32]) -> Table
     ensures { λ r. ⌜ TableAnswered (tilesVerdict (scanOf (now (s .entry)) release) (length (now (numbers .entry))) (length (now (starts .entry)))) (tileCount (now (s .entry))) r ⌝ }
     ensures { λ _. ⌜ TileArrays (scanOf (now (s .entry)) release) (now (numbers .entry)) (now (starts .entry)) (now (numbers .exit)) (now (starts .exit)) ⌝ }
@@ -106,7 +106,7 @@ pub fn tiles(s: &[u8], release: Release, numbers: &mut [u64], starts: &mut [i32]
         },
         Verdict::Accepted => {
             let n = judge::tile_count(s);
-            if too_short(n, 22, 3, numbers.len(), starts.len()) {
+            if too_short(n, 24, 4, numbers.len(), starts.len()) {
                 return Table {
                     verdict: Verdict::Refused {
                         number: 22,

@@ -1,6 +1,6 @@
 -- The rectangle of an entry's tile: its bounds, when it meets a window, and that a tile gives no pixel of a window that it does not meet. Assumes nothing.
 use mathlib.Core.Path.{_≡_, _∙_}
-use Prim.Native.Nat.{ℕ, _+_, _^_, _≤_, _<_}
+use Prim.Native.Nat.{ℕ, _+_, _-_, _^_, _≤_, _<_}
 use native.Mathlib.Nat.{div-lt-iff-lt-mul, mod-lt}
 use native.Mathlib.Omega.{arith}
 use mathlib.Core.List.{List}
@@ -77,7 +77,20 @@ module _ (a w : Rect) where
       rw (lt-ltb (w .left) (a .left + a .width) h, lt-ltb (a .left) (w .left + w .width) i)
       (rw (lt-ltb (w .top) (a .top + a .height) j, lt-ltb (a .top) (w .top + w .height) k))
 
--- ---- off the window
+-- ---- inside a rectangle, and off the window
+
+-- column and row of a pixel that a rectangle covers
+pub covered-at : (a : Rect) (u v : ℕ) → covers a u v ≡ true → (u - a .left < a .width) × (v - a .top < a .height)
+unfolding covers
+covered-at a u v e =
+    let both = and-both (leb (a .left) u && ltb u (a .left + a .width)) _ e in
+    let col = and-both (leb (a .left) u) _ (both .0) in
+    let row = and-both (leb (a .top) v) _ (both .1) in
+    let left = leb-true (a .left) u (col .0) in
+    let right = ltb-true u (a .left + a .width) (col .1) in
+    let top = leb-true (a .top) v (row .0) in
+    let bottom = ltb-true v (a .top + a .height) (row .1) in
+    (omega arith, omega arith)
 
 -- a rectangle that covers a pixel of the window meets it
 covers-meets : (a w : Rect) (p : ℕ) → 1 ≤ w .width → p < area w → covers a (colOf w p) (rowOf w p) ≡ true → true ≡ meets a w
@@ -95,10 +108,10 @@ covers-meets a w p h l e =
     meeting a w (omega arith) (omega arith) (omega arith) (omega arith)
 
 -- a tile that does not meet the window gives none of its pixels
-pub gives-none : (ds : List ℕ) (on : Bool) (k e : ℕ) (bs : List ℕ) (q : ℕ) (rel : Release) (w : Rect) → meets (rectangle ds e) w ≡ false → 1 ≤ w .width
-    → (p : ℕ) → p < area w → givesAt w (entryTile ds on k e bs q rel) p ≡ false
+pub gives-none : (ds : List ℕ) (on : Bool) (l k e : ℕ) (bs : List ℕ) (q : ℕ) (rel : Release) (w : Rect) → meets (rectangle ds e) w ≡ false → 1 ≤ w .width
+    → (p : ℕ) → p < area w → givesAt w (entryTile ds on l k e bs q rel) p ≡ false
 unfolding entryTile
-gives-none ds on k e bs q rel w m h p l =
+gives-none ds on l k e bs q rel w m h p i =
     by-bool (covers (rectangle ds e) (colOf w p) (rowOf w p))
-    (λ c. absurd (true≢false (covers-meets (rectangle ds e) w p h l c ∙ m)))
+    (λ c. absurd (true≢false (covers-meets (rectangle ds e) w p h i c ∙ m)))
     (λ c. rw c)

@@ -71,7 +71,7 @@ fn bytes_of(d: &[u8], e: u64) -> usize
     entries::pixel_bytes(entries::pixel_type(d, e)) as usize
 }
 
-// One turn of the tile with the mask k of these lines in place of its own.
+// One turn of layer l of the tile, with the mask k of these lines in place of its own.
 fn paint_behind(
     target: &mut [u8],
     map: &mut [u8],
@@ -79,21 +79,22 @@ fn paint_behind(
     e: u64,
     s: &[u8],
     q: u64,
+    l: u64,
     w: Rect,
     k: Mask,
     lines: &[u8],
     quick: bool,
 ) -> usize
-    requires { ⌜ TileRoom (now target) (now map) (now d) e (now s) q w × LinesRoom k (now lines) ⌝ }
-    ensures { λ r. ⌜ TurnedBehind (now (target .entry)) (now (map .entry)) (now (d .entry)) e (now (s .entry)) q w k (now (lines .entry)) quick (now (target .exit)) (now (map .exit)) r ⌝ }
+    requires { ⌜ TileRoom (now target) (now map) (now d) e (now s) q l w × LinesRoom k (now lines) ⌝ }
+    ensures { λ r. ⌜ TurnedBehind (now (target .entry)) (now (map .entry)) (now (d .entry)) e (now (s .entry)) q l w k (now (lines .entry)) quick (now (target .exit)) (now (map .exit)) r ⌝ }
 {
     let a = rectangle_of(d, e);
     let b = bytes_of(d, e);
-    let from = subblocks::pixels_place(d, e, s, q) as usize;
+    let from = subblocks::layer_pixels_place(d, e, s, q, l) as usize;
     turns::paint_tile(target, map, w, a, &s[from..], b, k, lines, quick)
 }
 
-// One turn of the tile, its mask aside.
+// One turn of layer l of the tile, its mask aside.
 fn paint_entry_open(
     target: &mut [u8],
     map: &mut [u8],
@@ -101,11 +102,12 @@ fn paint_entry_open(
     e: u64,
     s: &[u8],
     q: u64,
+    l: u64,
     w: Rect,
     quick: bool,
 ) -> usize
-    requires { ⌜ TileRoom (now target) (now map) (now d) e (now s) q w ⌝ }
-    ensures { λ r. ⌜ PaintedOpen (now (target .entry)) (now (map .entry)) (now (d .entry)) e (now (s .entry)) q w quick (now (target .exit)) (now (map .exit)) r ⌝ }
+    requires { ⌜ TileRoom (now target) (now map) (now d) e (now s) q l w ⌝ }
+    ensures { λ r. ⌜ PaintedOpen (now (target .entry)) (now (map .entry)) (now (d .entry)) e (now (s .entry)) q l w quick (now (target .exit)) (now (map .exit)) r ⌝ }
 {
     let k = Mask {
         on: false,
@@ -113,10 +115,10 @@ fn paint_entry_open(
         height: 0,
         stride: 0,
     };
-    paint_behind(target, map, d, e, s, q, w, k, b"", quick)
+    paint_behind(target, map, d, e, s, q, l, w, k, b"", quick)
 }
 
-// One turn of the tile with the mask in the chunk at place.
+// One turn of layer l of the tile, with the mask in the chunk at place.
 fn paint_entry_masked(
     target: &mut [u8],
     map: &mut [u8],
@@ -124,13 +126,14 @@ fn paint_entry_masked(
     e: u64,
     s: &[u8],
     q: u64,
+    l: u64,
     w: Rect,
     place: u64,
     shape: MaskShape,
     quick: bool,
 ) -> usize
-    requires { ⌜ TileRoom (now target) (now map) (now d) e (now s) q w × Lined (now s) place shape ⌝ }
-    ensures { λ r. ⌜ PaintedMasked (now (target .entry)) (now (map .entry)) (now (d .entry)) e (now (s .entry)) q place shape w quick (now (target .exit)) (now (map .exit)) r ⌝ }
+    requires { ⌜ TileRoom (now target) (now map) (now d) e (now s) q l w × Lined (now s) place shape ⌝ }
+    ensures { λ r. ⌜ PaintedMasked (now (target .entry)) (now (map .entry)) (now (d .entry)) e (now (s .entry)) q l place shape w quick (now (target .exit)) (now (map .exit)) r ⌝ }
 {
     let k = Mask {
         on: true,
@@ -139,10 +142,10 @@ fn paint_entry_masked(
         stride: shape.stride as usize,
     };
     let from = (place + 36) as usize;
-    paint_behind(target, map, d, e, s, q, w, k, &s[from..], quick)
+    paint_behind(target, map, d, e, s, q, l, w, k, &s[from..], quick)
 }
 
-// One turn of the tile in the window w, under a release, masks on or off. The result is what it adds to the store count.
+// One turn of layer l of the tile in the window w, under a release, masks on or off. The result is what it adds to the store count.
 pub fn paint_entry(
     target: &mut [u8],
     map: &mut [u8],
@@ -150,24 +153,25 @@ pub fn paint_entry(
     e: u64,
     s: &[u8],
     q: u64,
+    l: u64,
     release: Release,
     w: Rect,
     on: bool,
     quick: bool,
 ) -> usize
-    requires { ⌜ PaintRoom (now target) (now map) (now d) e (now s) q release on w ⌝ }
-    ensures { λ r. ⌜ Painted (now (target .entry)) (now (map .entry)) (now (d .entry)) e (now (s .entry)) q release on w quick (now (target .exit)) (now (map .exit)) r ⌝ }
+    requires { ⌜ PaintRoom (now target) (now map) (now d) e (now s) q l release on w ⌝ }
+    ensures { λ r. ⌜ Painted (now (target .entry)) (now (map .entry)) (now (d .entry)) e (now (s .entry)) q l release on w quick (now (target .exit)) (now (map .exit)) r ⌝ }
 {
     if !on {
-        return paint_entry_open(target, map, d, e, s, q, w, quick);
+        return paint_entry_open(target, map, d, e, s, q, l, w, quick);
     }
     let mask = subblocks::mask_of(d, e, s, q, release);
     match mask {
         TileMask::Unmasked => {
-            return paint_entry_open(target, map, d, e, s, q, w, quick);
+            return paint_entry_open(target, map, d, e, s, q, l, w, quick);
         }
         TileMask::Masked { place, shape } => {
-            return paint_entry_masked(target, map, d, e, s, q, w, place, shape, quick);
+            return paint_entry_masked(target, map, d, e, s, q, l, w, place, shape, quick);
         }
     }
 }

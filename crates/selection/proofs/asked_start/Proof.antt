@@ -4,7 +4,7 @@ use native.Mathlib.Omega.{arith}
 use lib.ListN.{List·getD-eq-default}
 use lib.IntN.{pos}
 use Rattle.entries.proofs.ReadBack.{read-back}
-use Rattle.selection.specs.Select.{askedStart}
+use Rattle.format.specs.Choice.{askedStart}
 use borrow.Author.Needs.{needs}
 use Rattle.selection.proofs.asked_start.Statement.{statement}
 use Rattle.selection.proofs.asked_start.Tie as tie

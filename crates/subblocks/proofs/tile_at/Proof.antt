@@ -12,9 +12,10 @@ returns c =
     let b = c .before .before .before .before in
     let a = b .before .before in
     rw (
-      ← a .before .before .before .letter-extent .ensures,
-      ← a .before .before .letter-extent2 .ensures,
-      ← a .before .m-index-of .ensures,
+      ← a .before .before .before .before .letter-extent .ensures,
+      ← a .before .before .before .letter-extent2 .ensures,
+      ← a .before .before .m-index-of .ensures,
+      ← a .before .layers-of .ensures,
       ← a .pixel-type .ensures .0,
       ← b .before .pyramid-byte .ensures .0,
       ← b .dimension-count .ensures .0,
@@ -31,11 +32,12 @@ tile-at-spec =
     (λ c κs. search x-in)
     (λ c κs. search y-in)
     (λ c κs. search needs)
+    (λ c κs. search needs)
     (λ c κs. search listed-in)
     (λ c κs. search listed-in)
     (λ c κs. search listed-in)
-    (λ c κs. search needs)
-    (λ c κs. search needs)
-    (λ c κs. search needs)
-    (λ c κs. search needs)
+    (λ c κs. c .before .before .before .before .before .before .before .before .before .pre .filled)
+    (λ c κs. c .before .before .before .before .before .before .before .before .before .before .pre .filled)
+    (λ c κs. c .before .before .before .before .before .before .before .before .before .before .before .pre .filled)
+    (λ c κs. c .before .before .before .before .before .before .before .before .before .before .before .before .pre)
     returns)

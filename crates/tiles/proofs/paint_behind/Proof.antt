@@ -4,6 +4,9 @@ use Rattle.tiles.proofs.EntryTiles.{pixels-in, lent-room, lent-turned}
 use Rattle.tiles.proofs.paint_behind.Statement.{statement}
 use Rattle.tiles.proofs.paint_behind.Tie as tie
 
+returns : tie.Need-returns
+returns c = search lent-turned
+
 pub paint-behind-spec : {M : Type 1} → statement M
 paint-behind-spec =
     tie.close
@@ -17,4 +20,4 @@ paint-behind-spec =
     (λ c κs. search lent-room)
     (λ c. search needs)
     (λ c. search needs)
-    (λ c. search lent-turned))
+    returns)
