@@ -1,9 +1,10 @@
-"""The listing of papers 01 and 02, the settings and sheet of a quote, and the clean file of a repack, read straight from their
-text and apart from the crates.
+"""The listing of papers 01 and 02, planes, the settings and sheet of a quote, and the clean file of a repack, read straight
+from their text and apart from the crates.
 
 As a program it lists standard input, by release 1.2 or by the one that is named: 1.02. It is plain on purpose: the papers'
 sentences in their order. With the word settings it reads the lines of `selfcheck --settings N` and says where it reads
-settings otherwise, with the word repacks those of `selfcheck --repacks N`, where it writes another clean file.
+settings otherwise, with the word repacks those of `selfcheck --repacks N`, where it writes another clean file, with the word
+planes those of `selfcheck --planes N`, where it composes another plane.
 """
 import mmap
 import re
@@ -70,6 +71,38 @@ class Segment:
         self.room = used if used != 0 else allocated
 
 
+class Tile:
+    """A tile as its entry and its sub-block say: the entry's place, the type, the dimensions by letter, the letter that has
+    layers or None, the pixels as (start, length), the mask or None."""
+
+    def __init__(self, at, pixel_type, dimensions, layers, pixels, mask):
+        self.at, self.type, self.dimensions, self.layers = at, pixel_type, dimensions, layers
+        self.pixels, self.mask = pixels, mask
+        self.x, self.y = dimensions[b"X"], dimensions[b"Y"]
+        self.is_whole = self.x[1] == self.x[2] and self.y[1] == self.y[2]
+
+    def layer(self, starts, any_scene):
+        """The number of the layer that is asked for, 0 where there is one alone; None where the tile is not selected."""
+        layer = 0
+        for number, letter in enumerate(b"ABCDEFGHIJKLMNOPQRSTUVWXYZ"):
+            letter = bytes([letter])
+            if letter in b"XYM" or letter == b"S" and any_scene:
+                continue
+            start, size, _ = self.dimensions.get(letter, (0, 1, 1))
+            past = (starts[number] if number < len(starts) else 0) - start
+            if not 0 <= past < size:
+                return None
+            layer += past
+        return layer if self.is_whole else None
+
+    def is_valid(self, file, column, row):
+        """Is the pixel valid by the mask, which serves each layer?"""
+        if self.mask is None:
+            return True
+        lines, width, height, stride = self.mask
+        return column < width and row < height and file[lines + row * stride + column // 8] >> 7 - column % 8 & 1 == 1
+
+
 RELEASES = ["1.2", "1.02"]
 
 
@@ -81,7 +114,7 @@ class Reading:
             raise ValueError(f"there is no release {release!r}")
         self.file, self.release = file, release
         self.segments = {}  # by position
-        self.tiles = []     # (X, Y) as (start, size, stored size)
+        self.tiles = []
         self.attachments = 0
         # For a repack: of each entry DV its bytes, F, the sizes of its parts and where these begin; of the metadata segment
         # both sizes and where the XML begins; of each entry A1 its bytes, the size of its data and where they begin.
@@ -153,7 +186,8 @@ class Reading:
             at += length
 
     def entry(self, at, count, length):
-        x, y = self.dimensions(at, count)
+        dimensions, layers = self.dimensions(at, count)
+        x, y = dimensions[b"X"], dimensions[b"Y"]
         pixel_type = self.int(at + 2)
         refuse(pixel_type not in BYTES_A_PIXEL, 12, at)
         refuse(self.int(at + 18) != 0, 13, at)
@@ -167,17 +201,17 @@ class Reading:
         metadata, attachment, data = self.int(block.body), self.int(block.body + 4), self.long(block.body + 8)
         refuse(metadata < 0 or attachment < 0 or data < 0, 16, block.at)
         refuse(fixed + metadata + data + attachment > block.room, 16, block.at)
-        refuse(data != x[2] * y[2] * BYTES_A_PIXEL[pixel_type], 16, block.at)
+        refuse(data != x[2] * y[2] * (dimensions[layers][2] if layers else 1) * BYTES_A_PIXEL[pixel_type], 16, block.at)
         start = block.body + fixed
         self.blocks.append((entry, fixed, (metadata, attachment, data), start))
+        pixels, behind, mask = start + metadata, start + metadata + data, None
         # By 02, Req 05, every attachment is plain bytes under 1.02.
-        if self.release == "1.2" and declares_container(self.file[start:start + metadata]):
-            start += metadata + data
-            self.chunks(start, start + attachment)
-        self.tiles.append((x, y))
+        if self.release == "1.2" and declares_container(self.file[start:pixels]):
+            mask = self.chunks(behind, behind + attachment)
+        self.tiles.append(Tile(at, pixel_type, dimensions, layers, (pixels, data), mask))
 
     def dimensions(self, at, count):
-        """X and Y of a well formed entry, each as (start, size, stored size)."""
+        """The dimensions of a well formed entry, each as (start, size, stored size) by its letter, and the letter that has layers."""
         seen = {}
         for place in range(at + 32, at + 32 + 20 * count, 20):
             letter = self.file[place:place + 4]
@@ -187,28 +221,33 @@ class Reading:
             refuse(start + size > 2**31 - 1, 11, at)
             refuse(stored < 0, 11, at)
             stored = stored if stored != 0 else size
-            if letter in (b"X\0\0\0", b"Y\0\0\0"):
+            if letter[:1] in b"XY":
                 refuse(size < 1, 11, at)
             else:
-                refuse(size != 1 or stored != 1, 11, at)
+                # By 02, Req 10, a letter but M and S may have layers, up to 1,024.
+                refuse(size < 1 or size > (1 if letter[:1] in b"MS" else 1024) or stored != size, 11, at)
             seen[letter] = (start, size, stored)
-        order = [letter for letter in seen if letter[:1] in b"XY"]
-        refuse(order != [b"X\0\0\0", b"Y\0\0\0"], 11, at)
-        return seen[b"X\0\0\0"], seen[b"Y\0\0\0"]
+        seen = {letter[:1]: dimension for letter, dimension in seen.items()}
+        # X, then Y, then at most one letter that has layers.
+        large = [letter for letter in seen if letter in b"XY" or seen[letter][1] > 1]
+        refuse(large[:2] != [b"X", b"Y"] or len(large) > 3, 11, at)
+        return seen, (large[2:] or [None])[0]
 
     def chunks(self, at, end):
-        masks = 0
+        """The mask of a container, as (where its lines begin, width, height, stride), if there is one."""
+        mask = None
         while at < end:
             refuse(end - at < 20, 17, at)
             size, payload = self.int(at + 16), at + 20
             refuse(size < 0 or payload + size > end, 17, at)
             if self.file[at:at + 16] == MASK:
-                masks += 1
-                refuse(masks > 1 or size < 16, 18, at)
+                refuse(mask is not None or size < 16, 18, at)
                 width, height, representation, stride = struct.unpack_from("<4i", self.file, payload)
                 refuse(width < 0 or height < 0 or stride < 0 or representation != 0, 18, at)
                 refuse(stride * 8 < width or 16 + stride * height > size, 18, at)
+                mask = payload + 16, width, height, stride
             at = payload + size
+        return mask
 
     def metadata(self, segment):
         refuse(segment.room < 256, 10, segment.at)
@@ -246,7 +285,7 @@ def figures(file, release="1.2"):
         read = Reading(file, release)
     except Refused as r:
         return b"refused=%d\nplace=%d\n" % (r.number, r.place)
-    whole = [(x, y) for x, y in read.tiles if x[1] == x[2] and y[1] == y[2]]
+    whole = [(tile.x, tile.y) for tile in read.tiles if tile.is_whole]
     box = b"none"
     if whole:
         left, top = min(x[0] for x, y in whole), min(y[0] for x, y in whole)
@@ -254,6 +293,77 @@ def figures(file, release="1.2"):
         box = b"%d,%d,%d,%d" % (left, top, right, bottom)
     return b"bytes=%d\nsegments=%d\ntiles=%d\nattachments=%d\nbox=%s\n" % (
         len(file), len(read.segments), len(read.tiles), read.attachments, box)
+
+
+# Planes.
+
+def plane(read, starts, any_scene, pixel_type, background, window, masks):
+    """Both counts, the target and the map of a window (left, top, width, height). Raises Refused: 20, 21, 23."""
+    left, top, width, height = window
+    refuse(not 1 <= width <= 65536 or not 1 <= height <= 65536, 20, 0)
+    refuse(left + width > 2**31 - 1 or top + height > 2**31 - 1, 20, 0)
+    refuse(BYTES_A_PIXEL.get(pixel_type) != len(background), 21, 0)
+    pixel, selected = len(background), []
+    for number, tile in enumerate(read.tiles):
+        layer = tile.layer(starts, any_scene)
+        columns = range(max(left, tile.x[0]), min(left + width, tile.x[0] + tile.x[1]))
+        rows = range(max(top, tile.y[0]), min(top + height, tile.y[0] + tile.y[1]))
+        if layer is not None and columns and rows:
+            refuse(tile.type != pixel_type, 23, tile.at)
+            # Tiles without M lie below all with M; at a tie the later entry is on top.
+            rank = b"M" in tile.dimensions, tile.dimensions.get(b"M", (0,))[0], number
+            selected.append((rank, tile, layer, columns, rows))
+    target, given, stored = bytearray(background * (width * height)), [0] * (width * height), 0
+    for _, tile, layer, columns, rows in sorted(selected, key=lambda one: one[0]):
+        first = tile.pixels[0] + layer * tile.x[1] * tile.y[1] * pixel
+        for v in rows:
+            for u in columns:
+                column, row = u - tile.x[0], v - tile.y[0]
+                if masks and not tile.is_valid(read.file, column, row):
+                    continue
+                at, here = first + (row * tile.x[1] + column) * pixel, (v - top) * width + u - left
+                target[here * pixel:here * pixel + pixel] = read.file[at:at + pixel]
+                given[here] = 1
+                stored += 1
+    bits = "".join(map(str, given)) + "0" * (-len(given) % 8)
+    return sum(given), stored, bytes(target), int(bits, 2).to_bytes(len(bits) // 8, "big")
+
+
+def said_of_plane(file, release, question):
+    """What a line of `selfcheck --planes` ends with: of each tile its layers and the view of its pixels, then the plane."""
+    starts, any_scene, pixel_type, background, *window, masks = question
+    starts = [int(start) for start in starts.split(",") if start]
+    said = ""
+    try:
+        read = Reading(file, release)
+        for tile in read.tiles:
+            start, size, _ = tile.dimensions[tile.layers] if tile.layers else (0, 0, 0)
+            letter = tile.layers.decode() if tile.layers else "none"
+            said += "layers=%s,%d,%d\npixels=%d,%d\n" % (letter, start, size, *tile.pixels)
+        counts = plane(read, starts, any_scene == "true", int(pixel_type), bytes.fromhex(background[2:]),
+                       [int(number) for number in window], masks == "On")
+        return said + "covered=%d\nstored=%d\ntarget=%s\nmap=%s\n" % (*counts[:2], counts[2].hex(), counts[3].hex())
+    except Refused as r:
+        return said + "refused=%d\nplace=%d\n" % (r.number, r.place)
+
+
+def compare_planes(lines):
+    """Reads the lines; answers whether all are as they say, and some of each kind: planes of layers, refused files, 23."""
+    count, layered, refused, another_type = 0, 0, 0, 0
+    for line in lines:
+        release, file, *question, said = line.split(" ")
+        said = bytes.fromhex(said.strip()[2:]).decode("ascii")
+        read = said_of_plane(bytes.fromhex(file[2:]), release, question)
+        if read != said:
+            print(f"DIFFERENT: plane under {release} for {question}: {read[:600]} instead of {said[:600]}")
+            return False
+        count += 1
+        layered += "covered=" in said and "layers=" in said.replace("layers=none", "")
+        refused += said.startswith("refused=")
+        another_type += "refused=23" in said
+    print(f"planes by a third reading: {count}, of which {layered} of files with layers, {refused} of refused files, "
+          f"and {another_type} refused as 23")
+    return layered * 3 > count and refused * 50 > count and another_type > 0
 
 
 # The settings of a quote, Req 09: a pitch in micrometres, and all lines. Of bytes \d is 0 to 9.
@@ -403,8 +513,9 @@ def compare_repacks(lines):
     return clean * 2 > count and longest > 0 and refused > 0
 
 
-if __name__ == "__main__" and sys.argv[1:] in (["settings"], ["repacks"]):
-    compare = {"settings": compare_settings, "repacks": compare_repacks}[sys.argv[1]]
+COMPARED = {"settings": compare_settings, "repacks": compare_repacks, "planes": compare_planes}
+if __name__ == "__main__" and len(sys.argv) == 2 and sys.argv[1] in COMPARED:
+    compare = COMPARED[sys.argv[1]]
     sys.exit(0 if compare(sys.stdin) else 1)
 elif __name__ == "__main__":
     sys.stdout.buffer.write(listing(sys.stdin.buffer.read(), *sys.argv[1:2]))

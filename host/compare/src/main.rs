@@ -3,7 +3,8 @@
 //! of every kind, questions to them, quotes, and repacks, all under releases 1.2 and 1.02.
 //! Every number of every answer and every lent byte is compared, of refused calls too; and
 //! what the releases have in common is held of the library's own answers, as is what a
-//! clean file has of the file that it was made of. Prints how
+//! clean file has of the file that it was made of, and a file with one layer of each tile
+//! of the file with all. Prints how
 //! often each clause was reached; one reached not once fails the run, as any
 //! difference does, and a failing case is kept in a file that says how to run it
 //! again.
@@ -15,6 +16,7 @@ mod chosen;
 mod counts;
 mod damages;
 mod jobs;
+mod layers;
 mod lent;
 mod limits;
 mod metadata;
@@ -67,7 +69,7 @@ fn main() -> ExitCode {
 const SEEDS: u64 = 250;
 
 /// What is compared once in a run, each a part of its own.
-const ONCE: [fn(&mut Report); 11] = [
+const ONCE: [fn(&mut Report); 13] = [
     limits::check_longest,
     metadata::check_long,
     metadata::check_short,
@@ -79,6 +81,8 @@ const ONCE: [fn(&mut Report); 11] = [
     settings::check_large,
     repacks::check_most_segments,
     repacks::check_longest,
+    layers::check_every,
+    layers::check_far,
 ];
 
 /// Compares on the files of all seeds, and what is compared once.
@@ -114,6 +118,7 @@ fn compare(seed: u64, options: &Options, report: &mut Report) {
     planes::check(&read, &sound, random, options.questions, report);
     quotes::check(&read, &sound, random, report);
     repacks::check(&read, &sound, random, report);
+    layers::check(&read, &sound, random, report);
     damages::check(&sound, random, report);
     metadata::check(random, report);
     if seed.is_multiple_of(100) {

@@ -108,7 +108,7 @@ mod tests {
     #[test]
     fn a_mask_is_five_numbers() {
         let numbers = std::array::from_fn(|k| 1 + k as u64);
-        let starts = [4, 5, 6];
+        let starts = [4, 5, 6, 7];
         let hidden = without_mask(TileRecord { numbers, starts });
         let zeros = (0..calls::TILE_NUMBERS).filter(|k| hidden.numbers[*k] == 0);
         assert_eq!(zeros.collect::<Vec<_>>(), [17, 18, 19, 20, 21]);

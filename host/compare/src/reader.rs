@@ -297,7 +297,7 @@ fn figures(summary: &Summary) -> Figures {
 
 /// The record as the header has it.
 pub fn record(tile: &Tile) -> TileRecord {
-    let mask = tile.mask;
+    let (mask, layers) = (tile.mask, tile.layers);
     let [place, width, height, stride] = mask.map_or([0; 4], |m| {
         [m.place, m.width.into(), m.height.into(), m.stride.into()]
     });
@@ -325,8 +325,15 @@ pub fn record(tile: &Tile) -> TileRecord {
             width,
             height,
             stride,
+            layers.map_or(0, |l| l.letter.into()),
+            layers.map_or(0, |l| l.size as u64),
         ],
-        starts: [tile.x.start, tile.y.start, tile.m.unwrap_or(0)],
+        starts: [
+            tile.x.start,
+            tile.y.start,
+            tile.m.unwrap_or(0),
+            layers.map_or(0, |l| l.start),
+        ],
     }
 }
 

@@ -230,16 +230,17 @@ fn hide_places(tiles: &mut [u64]) {
     }
 }
 
-/// Both composers say and leave the same of both files; the place of 23 is that of the
-/// same entry.
-pub fn hold_plane(
+/// Both composers say and leave the same of both files, the clean one by that name; the
+/// place of 23 is that of the same entry. Answers the refusal's number and the covered
+/// count.
+pub fn hold_same_plane(
     release: Release,
-    (old, new): (&[u8], &[u8]),
+    (old, new, clean_name): (&[u8], &[u8], &str),
     places: &Places,
     ask: &Ask,
     random: &mut Random,
     report: &mut Report,
-) {
+) -> (u32, u64) {
     let plain = plain(ask, random);
     let lent = Buffers::new(ask.target, ask.map, random.word());
     let mut covered = 0;
@@ -264,12 +265,26 @@ pub fn hold_plane(
         if !is_same {
             let release = name(release);
             report.differs(format!(
-                "{composer} under {release}: {file:?}, and {clean:?} of the clean file, \
+                "{composer} under {release}: {file:?}, and {clean:?} of {clean_name}, \
                  or another plane: {plain:?}"
             ));
         }
         (covered, refused) = (file.value.covered, file.number);
     }
+    (refused, covered)
+}
+
+/// A plane of a file and of its clean file.
+pub fn hold_plane(
+    release: Release,
+    (old, new): (&[u8], &[u8]),
+    places: &Places,
+    ask: &Ask,
+    random: &mut Random,
+    report: &mut Report,
+) {
+    let files = (old, new, "the clean file");
+    let (refused, covered) = hold_same_plane(release, files, places, ask, random, report);
     if refused == 0 && ask.question.masks_on() && release == Release::V1_2 {
         report.alike.add("a plane with masks on under 1.2");
     }

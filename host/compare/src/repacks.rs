@@ -66,7 +66,7 @@ pub fn check_damaged(read: &Read, sound: &Sound, random: &mut Random, report: &m
 }
 
 /// A question to a sound file, some of them refused.
-fn question(sound: &Sound, random: &mut Random) -> Ask {
+pub fn question(sound: &Sound, random: &mut Random) -> Ask {
     let ask = draw(sound, random);
     if !random.percent(SPOILED) {
         return ask;

@@ -2,6 +2,7 @@
 
 use crate::case::Case;
 use crate::counts::{Compared, Declared, Sounded};
+use crate::layers::{CUT, FAR};
 use crate::quoted::{ORDERS, QUOTED, SHEETS, SHEET_CLAUSE};
 use crate::repacked::ALIKE;
 use crate::repacks::{BUFFERS, BUFFER_CLAUSES, REPACKED, REPACK_ORDERS};
@@ -164,6 +165,10 @@ pub struct Report {
     pub repack_limits: Tally,
     /// Of a repack, what goes before what.
     pub repack_orders: Tally,
+    /// Files cut to one layer of each tile.
+    pub cut: Tally,
+    /// Layers that are asked one by one.
+    pub far: Tally,
     /// Clauses of the refusal table.
     pub clauses: Tally,
     differences: Vec<String>,
@@ -226,6 +231,8 @@ impl Report {
             alike: Tally::new("Clean files by what they have of the file", ALIKE),
             repack_limits: Tally::new("Clean files at a limit", repack_limits),
             repack_orders: Tally::new("Repacks by what goes first", REPACK_ORDERS),
+            cut: Tally::new("Files cut to one layer by what they are asked", CUT),
+            far: Tally::new("Layers that are asked one by one", FAR),
             clauses: Tally::new("Refusals by clause", all),
             differences: Vec::new(),
             untold: 0,
@@ -374,7 +381,7 @@ impl Report {
         }
     }
 
-    fn tallies(&self) -> [&Tally; 20] {
+    fn tallies(&self) -> [&Tally; 22] {
         [
             &self.freedoms,
             &self.metadata_names,
@@ -395,11 +402,13 @@ impl Report {
             &self.alike,
             &self.repack_limits,
             &self.repack_orders,
+            &self.cut,
+            &self.far,
             &self.clauses,
         ]
     }
 
-    fn tallies_mut(&mut self) -> [&mut Tally; 20] {
+    fn tallies_mut(&mut self) -> [&mut Tally; 22] {
         [
             &mut self.freedoms,
             &mut self.metadata_names,
@@ -420,6 +429,8 @@ impl Report {
             &mut self.alike,
             &mut self.repack_limits,
             &mut self.repack_orders,
+            &mut self.cut,
+            &mut self.far,
             &mut self.clauses,
         ]
     }

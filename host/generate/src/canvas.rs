@@ -2,6 +2,7 @@
 
 use crate::container::{draw_chunks, draw_plain};
 use crate::format::{bytes_a_pixel, PIXEL_TYPES};
+use crate::layers::Stack;
 use crate::markup::Metadata;
 use crate::random::Random;
 use crate::tile::{Attached, Dimension, Tile};
@@ -21,6 +22,10 @@ pub struct Canvas {
     top: i32,
     /// Letters other than X, Y and M, with the start that most tiles have.
     letters: Vec<(u8, i32)>,
+    /// Letters along which tiles have layers.
+    stacks: Vec<Stack>,
+    /// Of a hundred tiles so many have layers, where there is such a letter.
+    layered: u64,
     /// Of a hundred tiles so many have an M.
     with_m: u64,
     pixel_type: i32,
@@ -31,9 +36,15 @@ pub struct Canvas {
 impl Canvas {
     /// Draws the choices.
     pub fn draw(random: &mut Random) -> Canvas {
-        let mut others: Vec<u8> = (b'A'..=b'Z').filter(|l| !b"XYM".contains(l)).collect();
+        let stacks = Stack::draw(random);
+        let is_free = |l: &u8| !b"XYM".contains(l) && stacks.iter().all(|stack| stack.letter != *l);
+        let mut others: Vec<u8> = (b'A'..=b'Z').filter(is_free).collect();
         random.shuffle(&mut others);
-        others.truncate(random.pick(&[0, 0, 1, 2, 3, 4, 6, 8, 9, 13, 14]));
+        // With few letters one question selects several tiles.
+        others.truncate(match stacks.is_empty() {
+            true => random.pick(&[0, 0, 1, 2, 3, 4, 6, 8, 9, 13, 14]),
+            false => random.pick(&[0, 0, 0, 0, 1, 2, 4, 8, 13]),
+        });
         if !others.is_empty() && !others.contains(&b'S') && random.percent(40) {
             others[0] = b'S';
         }
@@ -41,6 +52,8 @@ impl Canvas {
             left: corner(random),
             top: corner(random),
             letters: others.iter().map(|&l| (l, random.pick(&STARTS))).collect(),
+            stacks,
+            layered: random.pick(&[60, 60, 100]),
             with_m: random.pick(&[0, 70, 100]),
             pixel_type: random.pick(&PIXEL_TYPES).0,
             mixed: random.pick(&[0, 0, 30]),
@@ -81,20 +94,30 @@ impl Canvas {
         tile
     }
 
-    /// The dimensions of a tile: X before Y, others anywhere.
+    /// The dimensions of a tile: X before Y, layers behind Y, others anywhere.
     fn draw_dimensions(&self, random: &mut Random, pixel: usize) -> Vec<Dimension> {
-        let mut dimensions = self.draw_others(random);
+        let stack = match random.percent(self.layered) {
+            true => random.pick_from(self.stacks.clone()),
+            false => None,
+        };
+        let layers = stack.map(|stack| draw_layers(&stack, random, pixel));
+        let mut dimensions = self.draw_others(random, layers.as_ref());
         random.shuffle(&mut dimensions);
-        let (x, y) = self.draw_sides(random, pixel);
+        let layer = pixel * layers.map_or(1, |d| d.size as usize);
+        let (x, y) = self.draw_sides(random, layer);
         let at_x = random.below(dimensions.len() + 1);
         dimensions.insert(at_x, x);
         let at_y = at_x + 1 + random.below(dimensions.len() - at_x);
         dimensions.insert(at_y, y);
+        if let Some(layers) = layers {
+            let behind = at_y + 1 + random.below(dimensions.len() - at_y);
+            dimensions.insert(behind, layers);
+        }
         dimensions
     }
 
-    /// Letters other than X and Y, at most 14.
-    fn draw_others(&self, random: &mut Random) -> Vec<Dimension> {
+    /// Letters other than X, Y and that of the layers, at most 14 with it.
+    fn draw_others(&self, random: &mut Random, layers: Option<&Dimension>) -> Vec<Dimension> {
         let mut starts = self.letters.clone();
         // A letter that the tile lacks counts as 0.
         starts.retain(|&(_, start)| start != 0 || random.percent(70));
@@ -107,8 +130,16 @@ impl Canvas {
                 scene.1 = random.between(0, 2) as i32;
             }
         }
+        // A letter along which others have layers: the tile lacks it, or has one of them.
+        for stack in &self.stacks {
+            if layers.is_none_or(|d| d.letter != stack.letter) && random.percent(50) {
+                starts.insert(0, (stack.letter, stack.draw_start(random)));
+            }
+        }
+        let most = 14 - usize::from(layers.is_some());
+        starts.truncate(most);
         if random.percent(self.with_m) {
-            starts.truncate(13);
+            starts.truncate(most - 1);
             starts.push((b'M', random.pick(&M_STARTS)));
         }
         let other = |&(letter, start): &(u8, i32)| Dimension {
@@ -135,6 +166,18 @@ impl Canvas {
         let x = side(random, b'X', self.left, size_x, stored_x);
         let y = side(random, b'Y', self.top, size_y, stored_y);
         (x, y)
+    }
+}
+
+/// The dimension of a tile that has layers.
+fn draw_layers(stack: &Stack, random: &mut Random, pixel: usize) -> Dimension {
+    let (start, size) = stack.draw_range(random, pixel);
+    Dimension {
+        letter: stack.letter,
+        start,
+        size,
+        coordinate: coordinate(random),
+        stored_size: random.pick(&[0, size]),
     }
 }
 

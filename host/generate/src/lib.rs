@@ -4,7 +4,7 @@
 //! the rules of papers 01 and 02 leave; [`damage`] changes one field of such a file so
 //! that a given clause of the refusal table is reached; [`ask`] gives
 //! questions, answered and refused ones; [`Settings`] and [`FaultySettings`] are
-//! those of a quote; [`Sound::clean`] is the clean file that a repack must give, and
+//! those of a quote; [`Sound::cut`] is a file with the asked layers alone; [`Sound::clean`] is the clean file that a repack must give, and
 //! [`HUGE`] has files whose clean file is about 2^40 bytes long. Each says by name what it
 //! reached, and a [`Tally`] counts the names.
 
@@ -19,6 +19,7 @@ mod draft;
 mod format;
 mod freedoms;
 mod huge;
+mod layers;
 mod limits;
 mod markup;
 mod one_tile;
@@ -34,9 +35,10 @@ pub use draft::sound;
 pub use format::{bytes_a_pixel, Kind, MASK_GUID, PIXEL_TYPES, SECTION};
 pub use freedoms::{freedoms, freedoms_of};
 pub use huge::{Huge, Sparse, HUGE};
+pub use layers::{OneLayer, MOST_LAYERS};
 pub use limits::{Limit, LIMITS, LISTING_CLAUSES, REPACK_CLAUSES, REPACK_LIMITS};
 pub use markup::{draw_tokens, metadata_names, Metadata};
-pub use one_tile::OneTile;
+pub use one_tile::{Layered, OneTile};
 pub use random::Random;
 pub use segment::{SegmentPlace, HEADER};
 pub use settings::{

@@ -30,35 +30,51 @@ impl OneTile {
     /// The file up to the metadata.
     pub fn new() -> OneTile {
         OneTile {
-            bytes: head((WIDTH, HEIGHT)),
+            bytes: head((WIDTH, HEIGHT), 0, None),
         }
     }
 
     /// A file of one tile of these sides, each pixel of it a zero byte, and no metadata.
     pub fn zeros(width: usize, height: usize) -> Vec<u8> {
-        let mut bytes = head((width, height));
-        let held = 256 + width * height;
-        let allocated = held.next_multiple_of(32);
-        bytes[SUB_BLOCK + 16..][..8].copy_from_slice(&(allocated as i64).to_le_bytes());
-        bytes[SUB_BLOCK + 24..][..8].copy_from_slice(&(held as i64).to_le_bytes());
-        bytes.resize(METADATA + allocated - 256, 0);
+        let mut bytes = head((width, height), 0, None);
+        let length = hold(&mut bytes, width * height);
+        bytes.resize(length, 0);
         bytes
+    }
+
+    /// A file of one tile of these sides, of a type with that number and length, with so
+    /// many layers along a letter from a start on.
+    pub fn layered(
+        (width, height): (usize, usize),
+        (pixel_type, pixel): (i32, usize),
+        (letter, start, size): (u8, i32, usize),
+    ) -> Layered {
+        let mut head = head(
+            (width, height),
+            pixel_type,
+            Some((letter, start, size as i32)),
+        );
+        let layer = width * height * pixel;
+        head[SUB_BLOCK + 32 + 8..][..8].copy_from_slice(&((layer * size) as i64).to_le_bytes());
+        let length = hold(&mut head, layer * size);
+        Layered {
+            head,
+            layer,
+            length,
+        }
     }
 
     /// The file with this metadata and this attachment.
     pub fn with(&mut self, metadata: &[u8], attachment: &[u8]) -> &[u8] {
-        let held = 256 + metadata.len() + PIXELS.len() + attachment.len();
-        let allocated = held.next_multiple_of(32);
         let bytes = &mut self.bytes;
-        bytes[SUB_BLOCK + 16..][..8].copy_from_slice(&(allocated as i64).to_le_bytes());
-        bytes[SUB_BLOCK + 24..][..8].copy_from_slice(&(held as i64).to_le_bytes());
+        let length = hold(bytes, metadata.len() + PIXELS.len() + attachment.len());
         bytes[SUB_BLOCK + 32..][..4].copy_from_slice(&(metadata.len() as i32).to_le_bytes());
         bytes[SUB_BLOCK + 36..][..4].copy_from_slice(&(attachment.len() as i32).to_le_bytes());
         bytes.truncate(METADATA);
         bytes.extend_from_slice(metadata);
         bytes.extend_from_slice(PIXELS);
         bytes.extend_from_slice(attachment);
-        bytes.resize(METADATA + allocated - 256, 0);
+        bytes.resize(length, 0);
         bytes
     }
 
@@ -79,19 +95,53 @@ impl OneTile {
     }
 }
 
-/// The file up to the metadata, its tile of these sides.
-fn head((width, height): (usize, usize)) -> Vec<u8> {
+/// A file of one tile with layers, whose pixels are still to be said.
+pub struct Layered {
+    /// The file up to its pixels.
+    pub head: Vec<u8>,
+    /// The length of a layer.
+    pub layer: usize,
+    /// The file's length.
+    pub length: usize,
+}
+
+impl Layered {
+    /// The offset of the layer of that number.
+    pub fn at(&self, number: usize) -> usize {
+        METADATA + number * self.layer
+    }
+}
+
+/// The sub-block holds so many bytes behind its fixed part. Answers the file's length.
+fn hold(head: &mut [u8], bytes: usize) -> usize {
+    let held = 256 + bytes;
+    let allocated = held.next_multiple_of(32);
+    head[SUB_BLOCK + 16..][..8].copy_from_slice(&(allocated as i64).to_le_bytes());
+    head[SUB_BLOCK + 24..][..8].copy_from_slice(&(held as i64).to_le_bytes());
+    METADATA + allocated - 256
+}
+
+/// The file up to the metadata, its tile of these sides and of that type, with layers: a
+/// letter, start and size.
+fn head(
+    (width, height): (usize, usize),
+    pixel_type: i32,
+    layers: Option<(u8, i32, i32)>,
+) -> Vec<u8> {
     let mut file = vec![0; 96];
     file[0] = 1;
     file[52..60].copy_from_slice(&(DIRECTORY as i64).to_le_bytes());
     let mut entry = b"DV".to_vec();
-    entry.extend(0i32.to_le_bytes());
+    entry.extend(pixel_type.to_le_bytes());
     entry.extend((SUB_BLOCK as i64).to_le_bytes());
     entry.extend([0; 14]);
-    entry.extend(2i32.to_le_bytes());
-    for (letter, size) in [(b'X', width), (b'Y', height)] {
-        entry.extend([letter, 0, 0, 0, 0, 0, 0, 0]);
-        entry.extend((size as i32).to_le_bytes());
+    let sides = [(b'X', 0, width as i32), (b'Y', 0, height as i32)];
+    let dimensions: Vec<_> = sides.into_iter().chain(layers).collect();
+    entry.extend((dimensions.len() as i32).to_le_bytes());
+    for (letter, start, size) in dimensions {
+        entry.extend([letter, 0, 0, 0]);
+        entry.extend(start.to_le_bytes());
+        entry.extend(size.to_le_bytes());
         entry.extend([0; 8]);
     }
     let mut directory = 1i32.to_le_bytes().to_vec();
@@ -145,6 +195,22 @@ mod tests {
             assert_eq!(tile.attachment.start, OneTile::attachment_at(metadata));
             assert_eq!(tile.mask.is_some(), masked);
         }
+    }
+
+    #[test]
+    fn a_tile_with_layers() {
+        let file = OneTile::layered((3, 2), (1, 2), (b'Z', -4, 5));
+        let mut bytes = file.head.clone();
+        bytes.resize(file.length, 7);
+        let judged = judge(&bytes, Release::V1_2).expect("an accepted file");
+        let tile = judged.tile(0).expect("its tile");
+        let layers = tile.layers.expect("its layers");
+        assert_eq!((layers.letter, layers.start, layers.size), (b'Z', -4, 5));
+        assert_eq!(
+            (tile.pixels.start, tile.pixels.length),
+            (file.at(0) as u64, 60)
+        );
+        assert_eq!((file.layer, file.at(4) - file.at(0)), (12, 48));
     }
 
     #[test]

@@ -87,7 +87,7 @@ pub struct Tile {
     pub dimensions: Vec<Dimension>,
     /// The sub-block's metadata.
     pub metadata: Metadata,
-    /// The pixels.
+    /// The pixels, of all layers.
     pub pixels: Vec<u8>,
     /// The sub-block's attachment.
     pub attached: Attached,
@@ -122,7 +122,7 @@ impl Tile {
     /// The number of bytes that the stored pixels need.
     pub fn data_size(&self) -> usize {
         let stored = self.x().stored() as usize * self.y().stored() as usize;
-        stored * bytes_a_pixel(self.pixel_type)
+        stored * self.layers() * bytes_a_pixel(self.pixel_type)
     }
 
     /// F, the length of the sub-block's fixed part.

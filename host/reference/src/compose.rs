@@ -62,7 +62,7 @@ impl File<'_> {
                     Some(tile) => {
                         map[index / 8] |= 0x80 >> (index % 8);
                         counts.covered += 1;
-                        self.pixel(tile, u, v)
+                        self.pixel(tile, question.layer_of(tile), u, v)
                     }
                     None => &question.background,
                 };
@@ -116,11 +116,12 @@ impl File<'_> {
             }
     }
 
-    /// The bytes of the tile's pixel at plane pixel (u, v), which it covers.
-    fn pixel(&self, tile: &Tile, u: i64, v: i64) -> &[u8] {
+    /// The bytes of the tile's pixel in that layer at plane pixel (u, v), which it covers.
+    fn pixel(&self, tile: &Tile, layer: u64, u: i64, v: i64) -> &[u8] {
         let column = (u - i64::from(tile.x.start)) as u64;
         let row = (v - i64::from(tile.y.start)) as u64;
-        let index = row * tile.x.size as u64 + column;
+        let before = layer * tile.x.size as u64 * tile.y.size as u64;
+        let index = before + row * tile.x.size as u64 + column;
         let at = tile.pixels.start + index * tile.bytes_a_pixel;
         part(self.bytes, at, tile.bytes_a_pixel)
     }

@@ -5,6 +5,9 @@ use crate::pixel::bytes_a_pixel;
 use crate::refusal::{refuse_if, Refusal};
 use crate::segment::Segment;
 
+/// The most layers of a tile.
+const MOST_LAYERS: i32 = 1_024;
+
 /// One dimension of an entry.
 #[derive(Clone, Copy, Debug, PartialEq, Eq)]
 pub struct Dimension {
@@ -47,6 +50,16 @@ impl Entry {
     pub fn find(&self, letter: u8) -> Option<&Dimension> {
         self.dimensions.iter().find(|d| d.letter == letter)
     }
+
+    /// The dimension that has layers, if there is one.
+    pub fn layered(&self) -> Option<&Dimension> {
+        self.dimensions.iter().find(|d| has_layers(d))
+    }
+}
+
+/// Is it a letter besides X and Y with a Size of 2 or more?
+fn has_layers(d: &Dimension) -> bool {
+    !b"XY".contains(&d.letter) && d.size >= 2
 }
 
 fn entry_length(dimension_count: u64) -> u64 {
@@ -98,7 +111,20 @@ fn read_dimensions(file: &[u8], place: u64, count: u64) -> Option<Vec<Dimension>
     // X and Y present with X before Y.
     let x = dimensions.iter().position(|d| d.letter == b'X')?;
     let y = dimensions.iter().position(|d| d.letter == b'Y')?;
-    (x < y).then_some(dimensions)
+    if x > y {
+        return None;
+    }
+    // One letter may have layers, stored after X and Y: a second such letter, or one
+    // before Y, is 11 (Req 10).
+    let layered: Vec<usize> = (0..dimensions.len())
+        .filter(|k| has_layers(&dimensions[*k]))
+        .collect();
+    let is_allowed = match layered[..] {
+        [] => true,
+        [only] => only > y,
+        _ => false,
+    };
+    is_allowed.then_some(dimensions)
 }
 
 /// One dimension, or nothing where it is not well formed by itself.
@@ -118,10 +144,13 @@ fn read_dimension(file: &[u8], at: u64) -> Option<Dimension> {
     }
     // StoredSize 0 is read as Size.
     let stored = if stored_size == 0 { size } else { stored_size };
-    // X and Y Size at least 1. Every other dimension has Size 1 and stored size 1.
+    // X and Y Size at least 1. Every other dimension has Size 1 and stored size 1, but
+    // that a letter besides X, Y, M and S may have Size 2 to 1,024, with stored size 0 or
+    // equal to Size (Req 10).
     let sizes_are_good = match letter {
         b'X' | b'Y' => size >= 1,
-        _ => size == 1 && stored == 1,
+        b'M' | b'S' => size == 1 && stored == 1,
+        _ => (1..=MOST_LAYERS).contains(&size) && stored == size,
     };
     sizes_are_good.then_some(Dimension {
         letter,

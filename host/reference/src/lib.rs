@@ -52,4 +52,4 @@ pub use release::Release;
 pub use segment::{Kind, Segment};
 pub use settings::Settings;
 pub use sub_block::fixed_part;
-pub use tile::{Extent, Tile};
+pub use tile::{Extent, Layers, Tile};

@@ -1,7 +1,7 @@
 //! The question that a composer answers: which tiles, which window, which pixels.
 
 use crate::judge::File;
-use crate::tile::Tile;
+use crate::tile::{Layers, Tile};
 
 /// What a question makes of a tile.
 #[derive(Clone, Copy, Debug, PartialEq, Eq)]
@@ -77,14 +77,20 @@ impl Question {
     }
 
     /// Is the tile selected: no pyramid tile, and each other letter but M
-    /// starts where the question says?
+    /// starts where the question says, or has the question's start in its range?
     pub fn selects(&self, tile: &Tile) -> bool {
         !tile.is_pyramid_tile()
             && (b'A'..=b'Z').all(|letter| match letter {
                 b'X' | b'Y' | b'M' => true,
                 b'S' if self.any_scene => true,
-                _ => tile.start_of(letter) == self.start_of(letter),
+                _ => tile.lies_at(letter, self.start_of(letter)),
             })
+    }
+
+    /// The number of the layer that a selected tile gives; 0 where it has no layers.
+    pub(crate) fn layer_of(&self, tile: &Tile) -> u64 {
+        let of = |layers: Layers| layers.at(self.start_of(layers.letter));
+        tile.layers.and_then(of).unwrap_or(0)
     }
 
     /// Does the tile cover a pixel of the window? One without pixels has none.

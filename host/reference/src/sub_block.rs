@@ -44,7 +44,10 @@ pub(crate) fn read_sub_block(
     refuse_if(negative, 16, segment.position)?;
     let end = fixed as i128 + metadata_size as i128 + data_size as i128 + attachment_size as i128;
     refuse_if(end > segment.room as i128, 16, segment.position)?;
-    let right_size = stored(entry, b'X') * stored(entry, b'Y') * entry.bytes_a_pixel as i128;
+    // DataSize takes the factor of the layers (Req 10).
+    let layers = entry.layered().map_or(1, |d| i128::from(d.stored));
+    let pixels = stored(entry, b'X') * stored(entry, b'Y') * layers;
+    let right_size = pixels * entry.bytes_a_pixel as i128;
     refuse_if(data_size as i128 != right_size, 16, segment.position)?;
 
     // From F: metadata, pixels, attachment, with no gap.

@@ -23,6 +23,27 @@ impl Extent {
     }
 }
 
+/// The letter besides X, Y, M and S along which a tile has several layers.
+#[derive(Clone, Copy, Debug, PartialEq, Eq)]
+pub struct Layers {
+    /// The letter.
+    pub letter: u8,
+    /// Where its first layer is.
+    pub start: i32,
+    /// How many there are, 2 to 1,024.
+    pub size: i32,
+}
+
+impl Layers {
+    /// The number of the layer at that start, counted from 0, if it lies in the range.
+    pub(crate) fn at(&self, start: i32) -> Option<u64> {
+        let number = i64::from(start) - i64::from(self.start);
+        (0..i64::from(self.size))
+            .contains(&number)
+            .then_some(number as u64)
+    }
+}
+
 /// The tile record, with all of its dimensions.
 #[derive(Clone, Debug, PartialEq, Eq)]
 pub struct Tile {
@@ -44,13 +65,15 @@ pub struct Tile {
     pub y: Extent,
     /// The start of M, if the entry has an M.
     pub m: Option<i32>,
-    /// The pixels.
+    /// The layers, if there are several.
+    pub layers: Option<Layers>,
+    /// The pixels, of all layers.
     pub pixels: View,
     /// The sub-block's metadata.
     pub metadata: View,
     /// The sub-block's attachment.
     pub attachment: View,
-    /// The mask, if there is one.
+    /// The mask, if there is one; it serves each layer.
     pub mask: Option<Mask>,
     /// All dimensions in the entry's order.
     pub dimensions: Vec<Dimension>,
@@ -68,6 +91,11 @@ impl Tile {
             x: extent(&entry, b'X'),
             y: extent(&entry, b'Y'),
             m: entry.find(b'M').map(|d| d.start),
+            layers: entry.layered().map(|d| Layers {
+                letter: d.letter,
+                start: d.start,
+                size: d.size,
+            }),
             pixels: sub_block.pixels,
             metadata: sub_block.metadata,
             attachment: sub_block.attachment,
@@ -81,10 +109,16 @@ impl Tile {
         self.x.stored != self.x.size || self.y.stored != self.y.size
     }
 
-    /// Where the tile starts along a letter; one that it lacks counts as 0.
-    pub fn start_of(&self, letter: u8) -> i32 {
-        let found = self.dimensions.iter().find(|d| d.letter == letter);
-        found.map_or(0, |d| d.start)
+    /// Does the tile lie at that start of a letter: in its range where it has layers along
+    /// the letter, else where it starts? A letter that it lacks counts as 0.
+    pub fn lies_at(&self, letter: u8, start: i32) -> bool {
+        match self.layers {
+            Some(layers) if layers.letter == letter => layers.at(start).is_some(),
+            _ => {
+                let found = self.dimensions.iter().find(|d| d.letter == letter);
+                found.map_or(0, |d| d.start) == start
+            }
+        }
     }
 }
 

@@ -2,7 +2,7 @@
 
 use crate::report::Report;
 use generate::{freedoms_of, EntryPlace, Random, Sound, LIMITS, LISTING_CLAUSES};
-use reference::{judge, list, Dimension, Extent, File, Mask, Release, Tile, View};
+use reference::{judge, list, Dimension, Extent, File, Layers, Mask, Release, Tile, View};
 
 /// A sound file is accepted with all records, views and figures as planned, under
 /// both releases.
@@ -83,6 +83,11 @@ fn tile(number: u64, entry: &EntryPlace, sound: &Sound) -> Tile {
         x: extent(plan.x()),
         y: extent(plan.y()),
         m: plan.m(),
+        layers: plan.layered().map(|d| Layers {
+            letter: d.letter,
+            start: d.start,
+            size: d.size,
+        }),
         metadata: view(metadata_at, plan.metadata.bytes.len()),
         pixels: view(pixels_at, plan.pixels.len()),
         attachment: view(attachment_at, attachment.len()),

@@ -1,6 +1,7 @@
 //! The reference and the generator held against each other: sound files are
 //! accepted and read as planned, damaged ones refused as foretold, metadata
-//! declare a container as foretold, questions are answered as a painter would,
+//! declare a container as foretold, questions are answered as a painter would, and of a
+//! file with the asked layers alone as of the whole,
 //! settings of a quote are read as drawn or refused as foretold, and the clean file of a
 //! repack is that of the plan.
 //! Prints how often each freedom and each clause was reached; one reached not
@@ -13,6 +14,7 @@ mod files;
 mod metadata;
 mod options;
 mod painter;
+mod planes;
 mod questions;
 mod repacks;
 mod report;
@@ -43,6 +45,11 @@ fn main() -> ExitCode {
             first,
             ..
         } => Some(repacks::write(first, repacks)),
+        Options {
+            planes: Some(planes),
+            first,
+            ..
+        } => Some(planes::write(first, planes)),
         _ => None,
     };
     if let Some(written) = written {
@@ -99,6 +106,7 @@ mod tests {
             questions: 5,
             settings: None,
             repacks: None,
+            planes: None,
         });
         assert!(report.passed(), "{report}");
     }

@@ -4,9 +4,10 @@
 pub const USAGE: &str = "usage: selfcheck [--files N] [--first SEED] [--questions N-A-FILE]
        selfcheck --settings N [--first SEED]
        selfcheck --repacks N [--first SEED]
+       selfcheck --planes N [--first SEED]
 
---settings writes so many settings of a quote instead, for reading.py, and --repacks so
-many files with their clean files.";
+--settings writes so many settings of a quote instead, for reading.py, --repacks so many
+files with their clean files, and --planes so many files with a question and its plane.";
 
 /// What is to be run.
 pub struct Options {
@@ -20,6 +21,8 @@ pub struct Options {
     pub settings: Option<u64>,
     /// So many files with their clean files are written instead.
     pub repacks: Option<u64>,
+    /// So many files with a question and its plane are written instead.
+    pub planes: Option<u64>,
 }
 
 impl Options {
@@ -31,6 +34,7 @@ impl Options {
             questions: 5,
             settings: None,
             repacks: None,
+            planes: None,
         };
         while let Some(name) = arguments.next() {
             let field = match name.as_str() {
@@ -39,6 +43,7 @@ impl Options {
                 "--questions" => &mut options.questions,
                 "--settings" => options.settings.insert(0),
                 "--repacks" => options.repacks.insert(0),
+                "--planes" => options.planes.insert(0),
                 _ => return Err(format!("unknown argument {name}")),
             };
             let value = arguments.next().ok_or(format!("{name} wants a number"))?;

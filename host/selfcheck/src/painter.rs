@@ -1,7 +1,7 @@
 //! A composer of another make: it paints the tiles one over the other, from
 //! the plan and not from the file.
 
-use generate::ask::{meets, selects, Ask};
+use generate::ask::{layer, meets, selects, Ask};
 use generate::{bytes_a_pixel, Chunk, Sound, Tile};
 use reference::Release;
 
@@ -54,7 +54,8 @@ fn paint_tile(painting: &mut Painting, ask: &Ask, tile: &Tile, release: Release)
     let mask = tile.chunks().and_then(|c| c.iter().find(|k| k.is_mask()));
     // Under 1.02 masks on means the same as masks off.
     let masks_on = question.masks_on() && release == Release::V1_2;
-    for (k, bytes) in tile.pixels.chunks(pixel).enumerate() {
+    let pixels = tile.layer(layer(question, tile));
+    for (k, bytes) in pixels.chunks(pixel).enumerate() {
         let (column, row) = (k % tile.x().size as usize, k / tile.x().size as usize);
         let x = i64::from(tile.x().start) + column as i64 - i64::from(question.left);
         let y = i64::from(tile.y().start) + row as i64 - i64::from(question.top);

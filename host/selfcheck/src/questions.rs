@@ -108,9 +108,29 @@ fn check_ask(read: &Read, sound: &Sound, ask: &Ask, random: &mut Random, report:
         report.differs(format!("painted otherwise under {release:?}: {question:?}"));
     }
     note_outcome(read, ask, &painting, report);
+    check_layers(read, sound, ask, &painting, report);
     if let Some(cut) = Cut::draw(ask, random) {
         check_cut(file, ask, &painting, &cut, report);
     }
+}
+
+/// A file whose layered tiles hold the asked layer alone composes the same.
+fn check_layers(read: &Read, sound: &Sound, ask: &Ask, whole: &Painting, report: &mut Report) {
+    if sound.tiles.iter().all(|tile| tile.layered().is_none()) {
+        return;
+    }
+    let bytes = sound.cut(&ask.question).bytes;
+    let painting = match judge(&bytes, read.release) {
+        Ok(file) => compose(&file, ask, report),
+        Err(refusal) => return report.differs(format!("a file cut to one layer is {refusal}")),
+    };
+    if painting.as_ref() != Ok(whole) {
+        let question = &ask.question;
+        report.differs(format!(
+            "cut to one layer it is another plane: {question:?}"
+        ));
+    }
+    report.outcomes.add("the same of a file cut to one layer");
 }
 
 fn note_outcome(read: &Read, ask: &Ask, painting: &Painting, report: &mut Report) {

@@ -12,7 +12,7 @@ use std::fmt;
 const MOST_PRINTED: usize = 20;
 
 /// The names of what a composed plane may show.
-pub const OUTCOMES: [&str; 8] = [
+pub const OUTCOMES: [&str; 9] = [
     "answered",
     "refused",
     "no pixel covered",
@@ -21,6 +21,7 @@ pub const OUTCOMES: [&str; 8] = [
     "the plain composer stores more than the quick one",
     "masks change the plane",
     "cut in two halves",
+    "the same of a file cut to one layer",
 ];
 
 /// Counts and differences.

@@ -108,6 +108,11 @@ const CLAUSES: &[AskClause] = &[
     AskClause::new("23: a selected tile has another type", 23, another_type),
     AskClause::new("23: below a tile that covers the window", 23, hidden_type),
     AskClause::new("23: where the mask hides all of the tile", 23, masked_type),
+    AskClause::new(
+        "23: a tile of another type at its last layer",
+        23,
+        layered_type,
+    ),
 ];
 
 /// A left or top from which the window passes the last column or row.
@@ -154,6 +159,20 @@ fn another_type(sound: &Sound, random: &mut Random, _: Ask) -> Option<Ask> {
     ask.question.width = more(u, random);
     ask.question.height = more(v, random);
     lend(&mut ask, random);
+    Some(ask)
+}
+
+/// The window is a pixel of a tile with layers, of which the last is asked for.
+fn layered_type(sound: &Sound, random: &mut Random, _: Ask) -> Option<Ask> {
+    let layered = full_tiles(sound).filter(|(_, _, tile)| tile.layered().is_some());
+    let (_, _, tile) = random.pick_from(layered.collect())?;
+    let pixel_type = other_type(random, tile);
+    let mut ask = at_pixel(random, tile, pixel_type, tile.x().start, tile.y().start)?;
+    let d = tile.layered()?;
+    ask.question
+        .starts
+        .resize(26.max(ask.question.starts.len()), 0);
+    ask.question.starts[usize::from(d.letter - b'A')] = d.start + (d.size - 1);
     Some(ask)
 }
 

@@ -70,7 +70,10 @@ pub(super) fn draw_starts(base: Option<&Tile>, random: &mut Random) -> Vec<i32> 
     let mut starts = vec![0; 26];
     for d in base.map_or(&[][..], |tile| &tile.dimensions) {
         if !b"XYM".contains(&d.letter) {
-            starts[usize::from(d.letter - b'A')] = d.start;
+            starts[usize::from(d.letter - b'A')] = match d.size {
+                1 => d.start,
+                _ => at_layer(d, random),
+            };
         }
     }
     if random.percent(8) {
@@ -90,6 +93,19 @@ pub(super) fn draw_starts(base: Option<&Tile>, random: &mut Random) -> Vec<i32> 
         }
     }
     starts
+}
+
+/// A start at a layer, most of them the first or the last; one before them, or one past.
+fn at_layer(d: &Dimension, random: &mut Random) -> i32 {
+    let last = d.start + (d.size - 1);
+    match random.below(12) {
+        0 => d.start.saturating_sub(1),
+        1 => last + 1,
+        2..=4 => d.start,
+        5..=7 => last,
+        8 if d.start < 0 && 0 <= last => 0,
+        _ => random.between(d.start.into(), last.into()) as i32,
+    }
 }
 
 /// How a window lies along X or Y.

@@ -1,6 +1,6 @@
 //! The freedoms that a question has, and which of them one takes.
 
-use super::select::{meets, selects};
+use super::select::{layer, meets, selects};
 use super::Ask;
 use crate::sound::Sound;
 use crate::tile::{Dimension, Tile};
@@ -9,7 +9,9 @@ use reference::{Masks, Question};
 /// The names of all freedoms of a question.
 pub fn ask_freedoms() -> Vec<&'static str> {
     let of_asks = OF_ASKS.iter().map(|f| f.0);
-    of_asks.chain(OF_TILES.iter().map(|f| f.0)).collect()
+    let of_tiles = OF_TILES.iter().map(|f| f.0);
+    let of_layers = OF_LAYERS.iter().map(|f| f.0);
+    of_asks.chain(of_tiles).chain(of_layers).collect()
 }
 
 /// The freedoms that the question to that file takes, each once.
@@ -23,6 +25,12 @@ pub fn ask_freedoms_of(sound: &Sound, ask: &Ask) -> Vec<&'static str> {
     }
     for &(name, test) in OF_TILES {
         if test(&ask.question, &tiles) {
+            taken.push(name);
+        }
+    }
+    let layered = layered(&ask.question, &tiles);
+    for &(name, test) in OF_LAYERS {
+        if layered.iter().any(|l| test(&ask.question, l, &tiles)) {
             taken.push(name);
         }
     }
@@ -151,6 +159,119 @@ const OF_TILES: &[OfTiles] = &[
             lacking.next().is_some()
         },
     ),
+];
+
+/// A tile with layers that meets the window, and that the question selects or would at
+/// another start of the layers' letter.
+struct Layered<'a> {
+    tile: &'a Tile,
+    d: &'a Dimension,
+    /// How far the question's start lies past that of the layers.
+    past: i64,
+    asked: i32,
+    is_selected: bool,
+}
+
+impl Layered<'_> {
+    /// Does the question ask for its last layer?
+    fn is_last(&self) -> bool {
+        self.past == i64::from(self.d.size) - 1
+    }
+}
+
+fn layered<'a>(q: &Question, tiles: &[&'a Tile]) -> Vec<Layered<'a>> {
+    let of = |tile: &&'a Tile| {
+        let tile: &'a Tile = tile;
+        let d = tile.layered()?;
+        let mut moved = q.clone();
+        moved.starts.resize(26.max(moved.starts.len()), 0);
+        moved.starts[usize::from(d.letter - b'A')] = d.start;
+        let asked = start(q, d.letter);
+        let is_meant = selects(&moved, tile) || tile.is_pyramid_tile();
+        (is_meant && meets(q, tile)).then(|| Layered {
+            tile,
+            d,
+            past: i64::from(asked) - i64::from(d.start),
+            asked,
+            is_selected: selects(q, tile),
+        })
+    };
+    tiles.iter().filter_map(of).collect()
+}
+
+type OfLayered = (&'static str, fn(&Question, &Layered, &[&Tile]) -> bool);
+
+const OF_LAYERS: &[OfLayered] = &[
+    ("layers asked one before their start", |_, l, _| {
+        l.past == -1
+    }),
+    ("layers asked at their start", |_, l, _| {
+        l.is_selected && l.past == 0
+    }),
+    ("layers asked between the first and the last", |_, l, _| {
+        l.is_selected && l.past > 0 && !l.is_last()
+    }),
+    ("layers asked at the last", |_, l, _| {
+        l.is_selected && l.is_last()
+    }),
+    ("layers asked one past the last", |_, l, _| {
+        l.past == i64::from(l.d.size)
+    }),
+    ("1,024 layers asked at the last", |_, l, _| {
+        l.is_selected && l.is_last() && l.d.size == 1_024
+    }),
+    ("1,024 layers asked one past the last", |_, l, _| {
+        l.past == 1_024 && l.d.size == 1_024
+    }),
+    ("layers from -2^31 on asked at their start", |_, l, _| {
+        l.is_selected && l.asked == i32::MIN
+    }),
+    ("layers to 2^31 - 2 asked at the last", |_, l, _| {
+        l.is_selected && l.asked == i32::MAX - 1
+    }),
+    ("layers to 2^31 - 2 asked at 2^31 - 1", |_, l, _| {
+        l.asked == i32::MAX && l.past == i64::from(l.d.size)
+    }),
+    ("layers that hold 0, no start given for them", |q, l, _| {
+        let is_given = usize::from(l.d.letter - b'A') < q.starts.len();
+        l.is_selected && l.past > 0 && !is_given
+    }),
+    (
+        "masks on for layers with a mask, past the first",
+        |q, l, _| q.masks == Masks::On && l.is_selected && l.past > 0 && l.tile.mask().is_some(),
+    ),
+    (
+        "masks not on for layers with a mask, past the first",
+        |q, l, _| q.masks != Masks::On && l.is_selected && l.past > 0 && l.tile.mask().is_some(),
+    ),
+    ("layers past the first, cut by the window", |q, l, _| {
+        l.is_selected && l.past > 0 && is_cut(q, l.tile)
+    }),
+    (
+        "any scene, layers of a scene that is not asked for",
+        |q, l, _| {
+            let scene = l.tile.find(b'S').map(|d| d.start);
+            l.is_selected && q.any_scene && scene.is_some_and(|s| s != start(q, b'S'))
+        },
+    ),
+    ("a pyramid tile with the asked layer", |_, l, _| {
+        l.tile.is_pyramid_tile() && (0..i64::from(l.d.size)).contains(&l.past)
+    }),
+    (
+        "layers and a tile without them in the window",
+        |q, l, tiles| l.is_selected && shown(q, tiles).any(|t| t.layered().is_none()),
+    ),
+    (
+        "two tiles in the window, asked at other layers",
+        |q, l, tiles| {
+            let is_other = |t: &Tile| t.layered().is_some() && layer(q, t) as i64 != l.past;
+            l.is_selected && shown(q, tiles).any(is_other)
+        },
+    ),
+    ("layers along two letters in the window", |q, l, tiles| {
+        let is_other = |t: &Tile| t.layered().is_some_and(|d| d.letter != l.d.letter);
+        l.is_selected && shown(q, tiles).any(is_other)
+    }),
 ];
 
 /// The tiles that are selected and meet the window.

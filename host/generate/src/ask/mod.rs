@@ -16,7 +16,7 @@ pub use cut::Cut;
 pub use draw::draw;
 pub use freedoms::{ask_freedoms, ask_freedoms_of};
 pub use request::{Request, RequestClause, REQUEST_CLAUSES};
-pub use select::{first_of_another_type, meets, selects};
+pub use select::{first_of_another_type, layer, meets, selects};
 
 /// A question with the lengths of the buffers that are lent with it.
 #[derive(Clone, Debug)]

@@ -14,9 +14,10 @@ pub fn selects(question: &Question, tile: &Tile) -> bool {
     let given = question.starts.len().min(26);
     left[..given].copy_from_slice(&question.starts[..given]);
     for d in &tile.dimensions {
-        // What is left is what the question asks and the tile does not have.
+        // What is left is what the question asks and the tile does not have: a tile has
+        // as many starts along a letter as its Size.
         let asked = &mut left[usize::from(d.letter - b'A')];
-        *asked = i32::from(*asked != d.start);
+        *asked = i32::from(!(0..i64::from(d.size)).contains(&past(d, *asked)));
     }
     for ignored in b"XYM" {
         left[usize::from(ignored - b'A')] = 0;
@@ -25,6 +26,19 @@ pub fn selects(question: &Question, tile: &Tile) -> bool {
         left[usize::from(b'S' - b'A')] = 0;
     }
     left == [0; 26]
+}
+
+/// The number of the layer that a selected tile gives; 0 where it has none.
+pub fn layer(question: &Question, tile: &Tile) -> usize {
+    tile.layered().map_or(0, |d| {
+        let at = usize::from(d.letter - b'A');
+        past(d, question.starts.get(at).copied().unwrap_or(0)) as usize
+    })
+}
+
+/// How far a start lies past that of a dimension.
+fn past(d: &Dimension, start: i32) -> i64 {
+    i64::from(start) - i64::from(d.start)
 }
 
 /// Does the tile's rectangle share a pixel with the window?

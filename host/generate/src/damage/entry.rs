@@ -29,8 +29,12 @@ pub(super) const CLAUSES: &[Clause] = &[
         11,
         other_stored_negative,
     ),
-    Clause::new("11: Size of another letter not 1", 11, other_size),
-    Clause::new("11: stored size of another letter not 1", 11, other_stored),
+    Clause::new("11: Size of another letter under 1", 11, other_size),
+    Clause::new(
+        "11: stored size not 1 of another letter of Size 1",
+        11,
+        other_stored,
+    ),
     Clause::new("12: pixel type not listed", 12, pixel_type),
     Clause::new("12: a planned pixel type", 12, planned_type),
     Clause::new("13: compression not 0", 13, compression),
@@ -204,14 +208,14 @@ fn other_stored_negative(sound: &Sound, random: &mut Random) -> Option<Damage> {
 
 /// With a StoredSize of 1 the Size is the only fault.
 fn other_size(sound: &Sound, random: &mut Random) -> Option<Damage> {
-    let (damage, at, d) = some_dimension(sound, random, is_other)?;
-    let most = i32::MAX - d.start.max(0);
-    let size = random.pick(&[0, 2, -1, i32::MIN, most.max(2)]);
+    let (damage, at, _) = some_dimension(sound, random, is_other)?;
+    let size = random.pick(&[0, -1, i32::MIN]);
     Some(damage.int(at + 8, size))
 }
 
 fn other_stored(sound: &Sound, random: &mut Random) -> Option<Damage> {
-    let (damage, at, _) = some_dimension(sound, random, is_other)?;
+    let is_single = |d: &Dimension| is_other(d) && d.size == 1;
+    let (damage, at, _) = some_dimension(sound, random, is_single)?;
     Some(damage.int(at + 16, random.pick(&[2, 3, 1024, i32::MAX])))
 }
 

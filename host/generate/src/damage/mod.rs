@@ -12,6 +12,7 @@ mod directory;
 mod edit;
 mod entry;
 mod file_segment;
+mod layers;
 mod metadata;
 mod order;
 mod position;
@@ -81,6 +82,7 @@ pub fn clauses() -> Vec<&'static Clause> {
         file_segment::CLAUSES,
         directory::CLAUSES,
         entry::CLAUSES,
+        layers::CLAUSES,
         sub_block::CLAUSES,
         chunk::CLAUSES,
         metadata::CLAUSES,
@@ -124,6 +126,7 @@ pub fn behind_a_container(sound: &Sound, random: &mut Random) -> Option<Damaged>
     let tables = [
         directory::CLAUSES,
         entry::CLAUSES,
+        layers::CLAUSES,
         sub_block::CLAUSES,
         metadata::CLAUSES,
         attachment::CLAUSES,

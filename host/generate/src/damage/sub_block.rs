@@ -42,6 +42,28 @@ pub(super) const CLAUSES: &[Clause] = &[
     Clause::new("16: DataSize right modulo 2^32 only", 16, data_wraps_32),
     Clause::new("16: DataSize right modulo 2^64 only", 16, data_wraps_64),
     Clause::new("16: X and Y Size near 2^31 with type 11", 16, large_sides),
+    Clause::new("16: DataSize of one layer alone", 16, data_of_one),
+    Clause::new("16: DataSize of a layer too few", 16, data_of_fewer),
+    Clause::new(
+        "16: DataSize of a layer too many, which fits the room",
+        16,
+        data_of_more,
+    ),
+    Clause::new(
+        "16: DataSize with layers right modulo 2^32 only",
+        16,
+        layers_wrap_32,
+    ),
+    Clause::new(
+        "16: DataSize with layers right modulo 2^64 only",
+        16,
+        layers_wrap_64,
+    ),
+    Clause::new(
+        "16: X and Y Size near 2^31, 1,024 layers, type 11",
+        16,
+        large_layers,
+    ),
 ];
 
 /// An entry that no earlier one shares its sub-block with, and damage there.
@@ -256,19 +278,21 @@ fn with_sides(sound: &Sound, chosen: &Chosen, pixel_type: i32, x: i32, y: i32) -
     damage
 }
 
-/// 641 × 6,700,417 = 2^32 + 1.
+/// 641 × 6,700,417 = 2^32 + 1, of each layer.
 fn data_wraps_32(sound: &Sound, random: &mut Random) -> Option<Damage> {
     let chosen = choose(sound, random, |_| true)?;
     let damage = with_sides(sound, &chosen, 0, 641, 6_700_417);
-    Some(damage.long(chosen.content + 8, 1))
+    let layers = sound.tile(chosen.entry).layers() as i64;
+    Some(damage.long(chosen.content + 8, layers))
 }
 
-/// 24 × 421,221,772 × 1,824,726,041 = 2^64 + 32.
+/// 24 × 421,221,772 × 1,824,726,041 = 2^64 + 32, of each layer.
 fn data_wraps_64(sound: &Sound, random: &mut Random) -> Option<Damage> {
-    let holds_32 = |c: &Chosen| sound.tile(c.entry).pixels.len() as i64 + c.slack() >= 32;
-    let chosen = choose(sound, random, holds_32)?;
+    let of_layers = |c: &Chosen| 32 * sound.tile(c.entry).layers() as i64;
+    let holds = |c: &Chosen| sound.tile(c.entry).pixels.len() as i64 + c.slack() >= of_layers(c);
+    let chosen = choose(sound, random, holds)?;
     let damage = with_sides(sound, &chosen, 11, 421_221_772, 1_824_726_041);
-    Some(damage.long(chosen.content + 8, 32))
+    Some(damage.long(chosen.content + 8, of_layers(&chosen)))
 }
 
 fn large_sides(sound: &Sound, random: &mut Random) -> Option<Damage> {
@@ -284,4 +308,92 @@ fn large_sides(sound: &Sound, random: &mut Random) -> Option<Damage> {
         }
     }
     Some(damage)
+}
+
+/// An entry whose tile has layers.
+fn choose_layered<'a>(sound: &'a Sound, random: &mut Random) -> Option<Chosen<'a>> {
+    choose(sound, random, |c| sound.tile(c.entry).layered().is_some())
+}
+
+fn data_of_one(sound: &Sound, random: &mut Random) -> Option<Damage> {
+    let chosen = choose_layered(sound, random)?;
+    let one = sound.tile(chosen.entry).layer(0).len() as i64;
+    Some(chosen.damage(Step::Sizes).long(chosen.content + 8, one))
+}
+
+fn data_of_fewer(sound: &Sound, random: &mut Random) -> Option<Damage> {
+    let chosen = choose_layered(sound, random)?;
+    let tile = sound.tile(chosen.entry);
+    let size = (tile.pixels.len() - tile.layer(0).len()) as i64;
+    Some(chosen.damage(Step::Sizes).long(chosen.content + 8, size))
+}
+
+/// What stands behind the pixels is one layer more: slack, and bytes of the attachment.
+fn data_of_more(sound: &Sound, random: &mut Random) -> Option<Damage> {
+    let chosen = choose(sound, random, |c| {
+        let tile = sound.tile(c.entry);
+        let behind = tile.attachment().len() as i64 + c.slack();
+        tile.layered().is_some() && behind >= tile.layer(0).len() as i64
+    })?;
+    let tile = sound.tile(chosen.entry);
+    let (one, attached) = (tile.layer(0).len(), tile.attachment().len());
+    let damage = chosen.moving();
+    let damage = damage.int(chosen.content + 4, attached.saturating_sub(one) as i32);
+    let size = (tile.pixels.len() + one) as i64;
+    Some(damage.long(chosen.content + 8, size))
+}
+
+/// The entry and its copy get so many layers too.
+fn with_layers(sound: &Sound, chosen: &Chosen, damage: Damage, layers: i32) -> Damage {
+    let mut damage = damage;
+    for at in [chosen.entry.place, chosen.content + 16] {
+        for (k, d) in sound.tile(chosen.entry).dimensions.iter().enumerate() {
+            if !b"XY".contains(&d.letter) && d.size > 1 {
+                let start_at = at + 32 + 20 * k + 4;
+                damage = damage.int(start_at, d.start.min(0));
+                damage = damage.int(start_at + 4, layers).int(start_at + 12, 0);
+            }
+        }
+    }
+    damage
+}
+
+/// 2 × 715,827,883 × 3 = 2^32 + 2, and 2^12 × 2^16 × 16 = 2^32: without the layers it is
+/// less.
+fn layers_wrap_32(sound: &Sound, random: &mut Random) -> Option<Damage> {
+    let chosen = choose_layered(sound, random)?;
+    let known = [(2, 715_827_883, 3, 2), (1 << 12, 1 << 16, 16, 0)];
+    let (x, y, layers, size) = random.pick(&known);
+    let damage = with_sides(sound, &chosen, 0, x, y);
+    let damage = with_layers(sound, &chosen, damage, layers);
+    Some(damage.long(chosen.content + 8, size))
+}
+
+/// 2,147,418,113 × 1,718,039,348 × 5 = 2^64 + 4, and 2^30 × 2^30 × 16 = 2^64: without the
+/// layers it is less. 2^30 × 2^30 × 1,024 × 24 is a multiple of 2^64 too.
+fn layers_wrap_64(sound: &Sound, random: &mut Random) -> Option<Damage> {
+    let chosen = choose_layered(sound, random)?;
+    let held = sound.tile(chosen.entry).pixels.len() as i64 + chosen.slack();
+    let known = [
+        (0, 2_147_418_113, 1_718_039_348, 5, 4),
+        (0, 1 << 30, 1 << 30, 16, 0),
+        (11, 1 << 30, 1 << 30, 1_024, 0),
+    ];
+    let fitting = known.into_iter().filter(|k| k.4 <= held);
+    let (pixel_type, x, y, layers, size) = random.pick_from(fitting.collect())?;
+    let damage = with_sides(sound, &chosen, pixel_type, x, y);
+    let damage = with_layers(sound, &chosen, damage, layers);
+    Some(damage.long(chosen.content + 8, size))
+}
+
+fn large_layers(sound: &Sound, random: &mut Random) -> Option<Damage> {
+    let chosen = choose_layered(sound, random)?;
+    let side = random.pick(&[i32::MAX, i32::MAX - 1, 1 << 30]);
+    let damage = with_sides(sound, &chosen, 11, side, side);
+    let damage = with_layers(sound, &chosen, damage, crate::MOST_LAYERS);
+    // As many bytes as there are, or as the product has in 64 bits.
+    let product = (i64::from(side) * i64::from(side)).wrapping_mul(24 * 1_024);
+    let right = sound.tile(chosen.entry).pixels.len() as i64;
+    let size = random.pick(&[right, product]);
+    Some(damage.long(chosen.content + 8, size))
 }

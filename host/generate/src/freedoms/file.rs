@@ -13,6 +13,11 @@ pub(super) const OF_FILES: &[OfFile] = &[
     ("a sub-block listed twice", |s| {
         s.entries.iter().any(|e| !e.first)
     }),
+    ("a sub-block with layers listed twice", |s| {
+        s.entries
+            .iter()
+            .any(|e| !e.first && s.tile(e).layered().is_some())
+    }),
     ("a sound sub-block that is not listed", |s| {
         (0..s.tiles.len()).any(|k| s.entries.iter().all(|e| e.tile != k))
     }),

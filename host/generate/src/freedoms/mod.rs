@@ -2,6 +2,7 @@
 //! They are read off the file that was made, not off what was meant.
 
 mod file;
+mod layers;
 mod mask;
 mod overlap;
 mod repack;
@@ -10,6 +11,7 @@ mod tile;
 use crate::sound::Sound;
 use crate::tile::Tile;
 use file::OF_FILES;
+use layers::{OF_LAYERS, OF_LETTERS};
 use mask::{OF_CHUNKS, OF_MASKS};
 use overlap::{overlapping_pairs, OF_PAIRS};
 use repack::OF_REPACKS;
@@ -20,6 +22,8 @@ pub fn freedoms() -> Vec<&'static str> {
     let mut names = Vec::new();
     names.extend(OF_TYPES.iter().map(|f| f.1));
     names.extend(OF_TILES.iter().map(|f| f.0));
+    names.extend(OF_LETTERS.iter().map(|f| f.1));
+    names.extend(OF_LAYERS.iter().map(|f| f.0));
     names.extend(OF_MASKS.iter().map(|f| f.0));
     names.extend(OF_CHUNKS.iter().map(|f| f.0));
     names.extend(OF_PAIRS.iter().map(|f| f.0));
@@ -39,6 +43,11 @@ pub fn freedoms_of(sound: &Sound) -> Vec<&'static str> {
     }
     for &(name, test) in OF_TILES {
         if tiles.iter().any(|t| test(t)) {
+            taken.push(name);
+        }
+    }
+    for name in tiles.iter().flat_map(|t| layers::of_tile(t)) {
+        if !taken.contains(&name) {
             taken.push(name);
         }
     }

@@ -386,7 +386,8 @@ const OTHERS: &[Fault; 55] = &[
         Kind::Line(|line, random| {
             if let Some(at) = line.iter().position(|byte| *byte == b'=') {
                 match random.below(3) {
-                    0 => drop(line.remove(at)),
+                    // All of them: a value that begins with one would be mended.
+                    0 => line.retain(|byte| *byte != b'='),
                     1 => line[at] = b':',
                     _ => line[at] = b' ',
                 }
