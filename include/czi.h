@@ -55,13 +55,15 @@
  *   11 entry            A tile's entry lacks its mark DV, has not 1 to 16 dimensions, a letter that is not A to Z or is
  *                       there twice, no X or no Y, or Y before X, X or Y of a size below 1, another letter whose size
  *                       or stored size is not 1, a start and size that add up to over 2,147,483,647, or a negative
- *                       stored size. An attachment's entry lacks its mark A1, or a zero byte in its name.
+ *                       stored size. But one letter behind Y that is neither M nor S may have a size of 2 to 1,024, and
+ *                       a stored size of 0 or of that: its starts are the tile's layers. A second such letter is 11, and
+ *                       one before Y. An attachment's entry lacks its mark A1, or a zero byte in its name.
  *   12 pixel type       An entry has a type that czi_pixel_bytes does not know.
  *   13 compression      An entry says that its pixels are compressed.
  *   14 named segment    Where an entry says that its sub-block, or its attachment, is, none begins.
  *   15 copy             A sub-block or an attachment has no room for its fixed part, or its copy of the entry differs.
  *   16 sizes            A sub-block's or an attachment's sizes are negative or do not fit its room, or a tile's pixels
- *                       are not stored width * stored height * bytes a pixel.
+ *                       are not stored width * stored height * bytes a pixel, and that for each layer, where it has any.
  *   17 chunk            Under 1.2 alone. In an attachment of a tile whose metadata declare that it holds chunks
  *                       (docs/RULES.md, 5), a chunk's header is cut, its size is negative, or it ends past the
  *                       attachment. Of 17 and 18 the place is the chunk's header.
@@ -95,7 +97,7 @@
  *
  * C99 or later, or C++. Linked, where ./install has put it into PREFIX, as
  *   cc yours.c $(pkg-config --cflags --libs czi) -Wl,-rpath,PREFIX/lib
- * or without -rpath where the loader finds libczi.so.2 (LD_LIBRARY_PATH, ldconfig); or, beside the sources, built by
+ * or without -rpath where the loader finds libczi.so.3 (LD_LIBRARY_PATH, ldconfig); or, beside the sources, built by
  * `rt staticlib czi` and linked as  cc -Iinclude yours.c target/staticlib/libczi.a
  */
 #ifndef CZI_H
@@ -106,7 +108,7 @@
 
 /* The number of this interface, which is that of the shared library's soname too. It rises when a declaration that was
  * here changes, an array's length too; not when one is added. A program may compare it with what czi_version gives. */
-#define CZI_VERSION 2
+#define CZI_VERSION 3
 
 #ifdef __cplusplus
 extern "C" {
@@ -135,7 +137,7 @@ uint32_t czi_judge(const uint8_t *file, size_t file_len, uint32_t release, uint6
  * Both are 0 where refused. A part that is there may be empty too. Every part lies in the file.
  * entry counts the entries of the sub-block directory from 0; 24 where there is no such entry. */
 
-/* The pixels of a tile. */
+/* The pixels of a tile: of all of its layers, where it has any, one layer behind the other. */
 uint32_t czi_tile_pixels(const uint8_t *file, size_t file_len, uint32_t release, uint64_t entry,
                          uint64_t *place, uint64_t *start, uint64_t *length);
 
@@ -169,8 +171,14 @@ uint32_t czi_attachment(const uint8_t *file, size_t file_len, uint32_t release, 
                         uint64_t *place, uint8_t *guid, uint8_t *file_type, uint8_t *name,
                         uint64_t *start, uint64_t *length);
 
-/* ---- The tile record, as 22 numbers and 3 signed ones, in two arrays that are lent. A refused call leaves both as they
- * were. */
+/* ---- The tile record, as 24 numbers and 4 signed ones, in two arrays that are lent. A refused call leaves both as they
+ * were.
+ *
+ * A tile may have layers: several planes of its pixels in one sub-block, such as the focal planes of a stack. They lie along
+ * one letter, which is none of X, Y, M and S: layer l, counted from 0, is the one that starts at CZI_TILE_LAYER_START + l.
+ * All layers have as many bytes, CZI_TILE_PIXELS_LENGTH / CZI_TILE_LAYER_SIZE, and layer l has those from l times as many
+ * on, counted from CZI_TILE_PIXELS_START. CZI_TILE_LAYER_SIZE is 0 where the tile has no layers: look before dividing by it.
+ * The mask is that of each layer. A pyramid tile may have layers too. */
 
 /* What stands where in numbers. Starts are offsets in the file. */
 enum {
@@ -196,7 +204,9 @@ enum {
     CZI_TILE_MASK_WIDTH = 19,
     CZI_TILE_MASK_HEIGHT = 20,
     CZI_TILE_MASK_STRIDE = 21,       /* bytes a line */
-    CZI_TILE_NUMBERS = 22            /* how many there are */
+    CZI_TILE_LAYER_LETTER = 22,      /* that of its layers, 65 to 90; 0 where it has none, as their size and start are */
+    CZI_TILE_LAYER_SIZE = 23,        /* how many layers: 2 to 1,024; 0 where it has none */
+    CZI_TILE_NUMBERS = 24            /* how many there are */
 };
 
 /* The most tiles that a file has which is not refused. */
@@ -207,7 +217,8 @@ enum {
     CZI_TILE_X_START = 0,
     CZI_TILE_Y_START = 1,
     CZI_TILE_M_START = 2,            /* 0 where there is no M */
-    CZI_TILE_STARTS = 3              /* how many there are */
+    CZI_TILE_LAYER_START = 3,        /* that of its first layer; 0 where it has none */
+    CZI_TILE_STARTS = 4              /* how many there are */
 };
 
 /* numbers is to CZI_TILE_NUMBERS of them, starts to CZI_TILE_STARTS. */
@@ -273,7 +284,8 @@ uint64_t czi_list(const uint8_t *file, size_t file_len, uint32_t release, uint8_
  * background.
  *
  * starts       where the tiles to select start, for the letters A to Z: what is missing is 0, what is past 26 is
- *              ignored, and so are X, Y and M. A letter that a tile lacks counts as 0. Pyramid tiles are not selected.
+ *              ignored, and so are X, Y and M. A letter that a tile lacks counts as 0. A tile with layers is selected by the
+ *              start of any of them, and gives the pixels of that one. Pyramid tiles are not selected.
  * any_scene    0: S selects as the other letters do; else tiles of any S, and without S, are selected.
  * pixel_type   that of the target's pixels: every selected tile that meets the window has it, else 23. czi_pixel_bytes
  *              gives the bytes of a pixel.

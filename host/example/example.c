@@ -1,10 +1,12 @@
 /* Lists a CZI file, composes the whole of its box in the type of its first tile, with masks on,
- * and prints how many pixels a tile gave and whether both composers agree. The file is judged by
+ * and prints how many pixels a tile gave and whether both composers agree. Where the first tile has
+ * layers, such as the focal planes of a stack, its first layer is composed. The file is judged by
  * release 1.2 of the format unless 1.02 is named.
  *
  *   cc -Wall -Wextra -Werror -Iinclude host/example/example.c target/staticlib/libczi.a -o example
  *   ./example host/samples/mosaic.czi
  *   ./example host/samples/mosaic.czi 1.02
+ *   ./example host/samples/stack.czi
  */
 #include <stdio.h>
 #include <stdlib.h>
@@ -57,12 +59,18 @@ static int compose(const uint8_t *file, size_t length, uint32_t release) {
     number = czi_tile(file, length, release, 0, &place, numbers, starts);
     if (number != 0) return refused(number, place);
 
+    int32_t asked[26] = {0}; /* where the tiles to select start, A to Z: at 0, and any scene is taken */
+    if (numbers[CZI_TILE_LAYER_SIZE] != 0) {
+        char letter = (char)numbers[CZI_TILE_LAYER_LETTER];
+        asked[letter - 'A'] = starts[CZI_TILE_LAYER_START];
+        printf("layer=%c,%d\n", letter, (int)starts[CZI_TILE_LAYER_START]);
+    }
     uint32_t type = (uint32_t)numbers[CZI_TILE_PIXEL_TYPE];
     uint32_t width = (uint32_t)right - (uint32_t)left, height = (uint32_t)bottom - (uint32_t)top;
     size_t pixel = czi_pixel_bytes(type), pixels = (size_t)width * height;
     size_t target_length = pixels * pixel, map_length = (pixels + 7) / 8;
     const uint8_t background[MOST_BYTES_A_PIXEL] = {0};
-    uint8_t *target[2], *map[2]; /* no starts are lent: all are 0, and any scene is taken */
+    uint8_t *target[2], *map[2];
     uint64_t covered[2], stored[2];
     for (int quick = 0; quick < 2; quick++) {
         target[quick] = malloc(target_length);
@@ -72,7 +80,7 @@ static int compose(const uint8_t *file, size_t length, uint32_t release) {
             return 1;
         }
         number = (quick ? czi_compose_quick : czi_compose_plain)(
-            file, length, release, CZI_NONE, 0, 1, type, background, pixel, left, top, width, height, CZI_MASKS_ON,
+            file, length, release, asked, 26, 1, type, background, pixel, left, top, width, height, CZI_MASKS_ON,
             target[quick], target_length, map[quick], map_length, &place, &covered[quick], &stored[quick]);
         if (number != 0) return refused(number, place);
     }

@@ -21,11 +21,11 @@ pub fn turn(pixel_type: PixelType, upper: TileMask, rounds: Rounds) -> [Duration
         2 => native::each_pixel::<2>,
         bytes => unreachable!("{bytes} bytes a pixel"),
     };
-    let tile = |layer, mask| Tile {
+    let tile = |m, mask| Tile {
         left: 0,
         top: 0,
         side: SIDE,
-        layer,
+        m,
         mask,
     };
     let tiles = [tile(0, TileMask::None), tile(1, upper)];

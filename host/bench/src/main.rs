@@ -4,6 +4,7 @@
 #![deny(unsafe_code)]
 
 mod bits;
+mod layers;
 mod leaves;
 mod metadata;
 mod mosaic;
@@ -25,12 +26,14 @@ use table::table;
 use timing::Rounds;
 
 const USAGE: &str = "\
-usage: bench [--markdown] [--limits] [--metadata] [--quotes] [--repacks] [--times N] [--seconds S]
+usage: bench [--markdown] [--limits] [--metadata] [--quotes] [--repacks] [--layers]
+             [--times N] [--seconds S]
   --markdown   tables in Markdown
   --limits     the first table alone: the figures to reach
   --metadata   of that the lines about metadata alone
   --quotes     the lines about quotes alone
   --repacks    the lines about repacks alone
+  --layers     the line about layers alone: five runs, and the one in the middle counts
   --times N    at least so many repetitions of each measure (21) ..
   --seconds S  .. and for at least so long (5)
 ";
@@ -41,6 +44,7 @@ struct Options {
     metadata: bool,
     quotes: bool,
     repacks: bool,
+    layers: bool,
     rounds: Rounds,
 }
 
@@ -74,6 +78,11 @@ fn main() {
         println!("{}", table(&report.limits, options.markdown));
         return;
     }
+    if options.layers {
+        let report = Report::of_layers(options.rounds);
+        println!("{}", table(&report.limits, options.markdown));
+        return;
+    }
     let report = Report::new(options.rounds, !options.limits);
     println!("{}", table(&report.limits, options.markdown));
     if !probe::LINKED {
@@ -91,6 +100,7 @@ fn options() -> Option<Options> {
         metadata: false,
         quotes: false,
         repacks: false,
+        layers: false,
         rounds: Rounds {
             times: 21,
             length: Duration::from_secs(5),
@@ -104,6 +114,7 @@ fn options() -> Option<Options> {
             "--metadata" => options.metadata = true,
             "--quotes" => options.quotes = true,
             "--repacks" => options.repacks = true,
+            "--layers" => options.layers = true,
             "--times" => options.rounds.times = words.next()?.parse().ok().filter(|&n| n > 0)?,
             "--seconds" => {
                 options.rounds.length = Duration::from_secs(words.next()?.parse().ok()?);

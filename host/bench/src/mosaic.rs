@@ -28,7 +28,7 @@ pub struct Tile {
     /// Its side in pixels.
     pub side: usize,
     /// Its M: a tile of a higher one lies above. It decides the pixels too.
-    pub layer: usize,
+    pub m: usize,
     /// Its mask.
     pub mask: TileMask,
 }
@@ -43,6 +43,28 @@ pub struct Mosaic {
     pub tiles: Vec<(Tile, usize)>,
 }
 
+/// Layers of each tile along Z, from 0 on: one has the drawn pixels, and the others have zeros.
+#[derive(Clone, Copy, Debug)]
+pub struct Layers {
+    /// How many.
+    pub size: usize,
+    /// Which has the pixels.
+    pub drawn: usize,
+}
+
+/// What a file has beside its tiles.
+#[derive(Clone, Copy, Default)]
+struct Beside<'a> {
+    /// So many DELETED segments.
+    deleted: usize,
+    /// Letters of each tile behind X, Y and M.
+    letters: &'a [u8],
+    /// A DELETED segment behind each sub-block, of its size.
+    dead: bool,
+    /// Layers of each tile.
+    layers: Option<Layers>,
+}
+
 /// The metadata of a sub-block that is named often.
 const METADATA: usize = 4 << 20;
 
@@ -53,7 +75,7 @@ pub fn grid(columns: usize, side: usize, step: usize, mask: TileMask) -> Vec<Til
             left: n % columns * step,
             top: n / columns * step,
             side,
-            layer: n,
+            m: n,
             mask,
         })
         .collect()
@@ -72,35 +94,47 @@ impl Mosaic {
         deleted: usize,
         letters: &[u8],
     ) -> Mosaic {
-        Mosaic::written(pixel_type, tiles, deleted, letters, false)
+        let beside = Beside {
+            deleted,
+            letters,
+            ..Beside::default()
+        };
+        Mosaic::written(pixel_type, tiles, beside)
     }
 
     /// A file of these tiles, behind each a DELETED segment of the sub-block's size.
     pub fn with_dead(pixel_type: PixelType, tiles: &[Tile]) -> Mosaic {
-        Mosaic::written(pixel_type, tiles, 0, b"", true)
+        let beside = Beside {
+            dead: true,
+            ..Beside::default()
+        };
+        Mosaic::written(pixel_type, tiles, beside)
     }
 
-    fn written(
-        pixel_type: PixelType,
-        tiles: &[Tile],
-        deleted: usize,
-        letters: &[u8],
-        dead: bool,
-    ) -> Mosaic {
+    /// A file of these tiles, each with layers.
+    pub fn with_layers(pixel_type: PixelType, tiles: &[Tile], layers: Layers) -> Mosaic {
+        let beside = Beside {
+            layers: Some(layers),
+            ..Beside::default()
+        };
+        Mosaic::written(pixel_type, tiles, beside)
+    }
+
+    fn written(pixel_type: PixelType, tiles: &[Tile], beside: Beside) -> Mosaic {
         let mut bytes = file_segment();
         let mut entries = Vec::new();
         let mut places = Vec::new();
         for tile in tiles {
-            let entry = tile.entry(pixel_type, bytes.len(), letters);
-            let (content, pixels) = tile.content(pixel_type, &entry);
+            let entry = tile.entry(pixel_type, bytes.len(), &beside);
+            let (content, pixels) = tile.content(pixel_type, &entry, beside.layers);
             places.push((*tile, bytes.len() + 32 + pixels));
             segment(&mut bytes, Kind::SubBlock, &content);
-            if dead {
+            if beside.dead {
                 segment(&mut bytes, Kind::Deleted, &content);
             }
             entries.push(entry);
         }
-        for _ in 0..deleted {
+        for _ in 0..beside.deleted {
             segment(&mut bytes, Kind::Deleted, &[]);
         }
         directory(&mut bytes, &entries);
@@ -116,7 +150,7 @@ impl Mosaic {
 pub fn named_often(entries: usize) -> Vec<u8> {
     let tile = grid(1, 16, 16, TileMask::None)[0];
     let mut bytes = file_segment();
-    let entry = tile.entry(PixelType::Gray8, bytes.len(), b"");
+    let entry = tile.entry(PixelType::Gray8, bytes.len(), &Beside::default());
     let (content, _) = sub_block(&entry, &vec![b' '; METADATA], &[0; 256], &[0; 32]);
     segment(&mut bytes, Kind::SubBlock, &content);
     directory(&mut bytes, &vec![entry; entries]);
@@ -124,19 +158,20 @@ pub fn named_often(entries: usize) -> Vec<u8> {
 }
 
 impl Tile {
-    fn entry(&self, pixel_type: PixelType, position: usize, letters: &[u8]) -> Vec<u8> {
+    fn entry(&self, pixel_type: PixelType, position: usize, beside: &Beside) -> Vec<u8> {
         let mut entry = b"DV".to_vec();
         entry.extend(pixel_type.number().to_le_bytes());
         entry.extend((position as i64).to_le_bytes());
         entry.extend([0; 14]);
-        entry.extend((3 + letters.len() as i32).to_le_bytes());
-        let first = [
+        let mut dimensions = vec![
             (b'X', self.left, self.side),
             (b'Y', self.top, self.side),
-            (b'M', self.layer, 1),
+            (b'M', self.m, 1),
         ];
-        let others = letters.iter().map(|letter| (*letter, 0, 1));
-        for (letter, start, size) in first.into_iter().chain(others) {
+        dimensions.extend(beside.letters.iter().map(|letter| (*letter, 0, 1)));
+        dimensions.extend(beside.layers.map(|layers| (b'Z', 0, layers.size)));
+        entry.extend((dimensions.len() as i32).to_le_bytes());
+        for (letter, start, size) in dimensions {
             entry.extend([letter, 0, 0, 0]);
             entry.extend((start as i32).to_le_bytes());
             entry.extend((size as i32).to_le_bytes());
@@ -146,9 +181,19 @@ impl Tile {
     }
 
     /// A sub-block's content, and where in it the pixels begin.
-    fn content(&self, pixel_type: PixelType, entry: &[u8]) -> (Vec<u8>, usize) {
-        let random = &mut Random::new(1 + self.layer as u64);
-        let pixels = random.bytes(self.side * self.side * pixel_type.bytes());
+    fn content(
+        &self,
+        pixel_type: PixelType,
+        entry: &[u8],
+        layers: Option<Layers>,
+    ) -> (Vec<u8>, usize) {
+        let random = &mut Random::new(1 + self.m as u64);
+        let mut pixels = random.bytes(self.side * self.side * pixel_type.bytes());
+        if let Some(Layers { size, drawn }) = layers {
+            let mut all = vec![0; size * pixels.len()];
+            all[drawn * pixels.len()..][..pixels.len()].copy_from_slice(&pixels);
+            pixels = all;
+        }
         let (metadata, attachment) = self.attached(random);
         sub_block(entry, &metadata, &pixels, &attachment)
     }

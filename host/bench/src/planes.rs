@@ -25,6 +25,8 @@ pub struct Call {
     masks: Masks,
     /// The background pixel's bytes, as many as a pixel has.
     background: [u8; 6],
+    /// The starts of A to Z; 0 where there are none.
+    starts: &'static [i32],
 }
 
 impl Call {
@@ -33,6 +35,7 @@ impl Call {
         composer: |file, question, target, map| compose_quick(file, question, target, map),
         masks: Masks::On,
         background: [1, 2, 3, 4, 5, 6],
+        starts: &[],
     };
     /// The plain composer.
     pub const PLAIN: Call = Call {
@@ -54,6 +57,11 @@ impl Call {
         background: [0; 6],
         ..Call::QUICK_OFF
     };
+
+    /// The same with these starts.
+    pub const fn starting(self, starts: &'static [i32]) -> Call {
+        Call { starts, ..self }
+    }
 }
 
 impl Planes {
@@ -69,7 +77,7 @@ impl Planes {
     /// The whole call: judges the file and composes its window.
     pub fn compose(&mut self, call: Call, file: &[u8]) {
         let question = Question {
-            starts: &[],
+            starts: call.starts,
             scene: Scene::AsStarts,
             pixel_type: self.pixel_type,
             background: &call.background[..self.pixel_type.bytes()],

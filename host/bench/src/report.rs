@@ -4,7 +4,7 @@ use crate::mosaic::TileMask;
 use crate::planes::Call;
 use crate::table::Line;
 use crate::timing::Rounds;
-use crate::{bits, leaves, metadata, probe, quote, repack, whole};
+use crate::{bits, layers, leaves, metadata, probe, quote, repack, whole};
 use czi::PixelType;
 
 /// The pixel types measured, one for each number of bytes.
@@ -49,6 +49,13 @@ impl Report {
         report
     }
 
+    /// Takes the measure of layers alone.
+    pub fn of_layers(rounds: Rounds) -> Report {
+        let mut report = Report::default();
+        report.layers(rounds);
+        report
+    }
+
     /// Takes the measures: all, or those with a limit.
     pub fn new(rounds: Rounds, all: bool) -> Report {
         let mut report = Report::default();
@@ -64,6 +71,7 @@ impl Report {
         report.judge(rounds, all);
         report.metadata(rounds);
         report.repacks(rounds);
+        report.layers(rounds);
         if all {
             report.quotes(rounds);
         }
@@ -184,6 +192,12 @@ impl Report {
         let measure = "repack of 4,096 tiles, no attachments / judge";
         self.limits
             .push(Line::new(measure, library, judged).at_most(3.0));
+    }
+
+    fn layers(&mut self, rounds: Rounds) {
+        let measure = "one layer of 64, quick, 1 byte / a file that has it alone";
+        let line = Line::median(measure, layers::runs(rounds));
+        self.limits.push(line.at_most(1.05));
     }
 
     fn quotes(&mut self, rounds: Rounds) {

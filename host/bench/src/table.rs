@@ -12,6 +12,8 @@ pub struct Line {
     pub against: f64,
     /// The ratio is to be at most this.
     pub at_most: Option<f64>,
+    /// Of several runs, how many they are, and the least and the greatest ratio.
+    pub spread: Option<(usize, f64, f64)>,
 }
 
 impl Line {
@@ -22,6 +24,20 @@ impl Line {
             library: library.as_secs_f64(),
             against: against.as_secs_f64(),
             at_most: None,
+            spread: None,
+        }
+    }
+
+    /// The run in the middle of several, by their ratios, and their spread.
+    pub fn median(measure: impl Into<String>, mut runs: Vec<[Duration; 2]>) -> Line {
+        let ratio =
+            |[library, against]: &[Duration; 2]| library.as_secs_f64() / against.as_secs_f64();
+        runs.sort_by(|one, other| ratio(one).total_cmp(&ratio(other)));
+        let [library, against] = runs[runs.len() / 2];
+        let (least, greatest) = (ratio(&runs[0]), ratio(&runs[runs.len() - 1]));
+        Line {
+            spread: Some((runs.len(), least, greatest)),
+            ..Line::new(measure, library, against)
         }
     }
 
@@ -49,7 +65,11 @@ impl Line {
         if let Some(at_most) = self.at_most {
             cells.push(format!("{at_most:.2}"));
             let reached = ratio <= at_most;
-            cells.push(if reached { "reached" } else { "not reached" }.into());
+            let mut said = if reached { "reached" } else { "not reached" }.to_string();
+            if let Some((runs, least, greatest)) = self.spread {
+                said += &format!(": median of {runs} runs, {least:.3} to {greatest:.3}");
+            }
+            cells.push(said);
         }
         cells
     }
@@ -132,6 +152,16 @@ a longer one / other  121.000 ms  100.000 ms  1.210     1.20  not reached
         let text = table(&lines(), true);
         assert_eq!(text.lines().nth(1), Some("|---|--:|--:|--:|--:|---|"));
         assert_eq!(text.lines().count(), 4);
+    }
+
+    #[test]
+    fn of_several_runs_the_middle_counts() {
+        let runs = [110, 90, 104, 300, 95]
+            .map(|ms| [Duration::from_millis(ms), Duration::from_millis(100)]);
+        let said = |at_most| table(&[Line::median("x", runs.to_vec()).at_most(at_most)], false);
+        let line = "1.040     1.05  reached: median of 5 runs, 0.900 to 3.000\n";
+        assert!(said(1.05).ends_with(line), "{}", said(1.05));
+        assert!(said(1.03).contains("  not reached: median of 5 runs, "));
     }
 
     #[test]

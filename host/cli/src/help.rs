@@ -69,9 +69,12 @@ Prints, of a file of any size:
                               for each start of S, if any tile has S; a tile
                               without S counts to scene 0. tiles= counts the
                               pyramid tiles in, selected= of czi count does not
-  letter= tiles= least= greatest=
+  letter= tiles= least= greatest= layered_tiles=
                               for each letter but X and Y: how many tiles have
-                              it, and the range of its starts
+                              it, pyramid tiles too; the range of their starts,
+                              those of layers too; and how many of these tiles
+                              have layers along it: several planes in one
+                              sub-block, of which --start takes one
   attachment= bytes= guid= type= name=
                               for each attachment: its number, the size of its
                               data, its content GUID, file type and name. The
@@ -92,11 +95,13 @@ Prints a line a tile, in the order of the directory:
   type=       its pixel type
   x= y=       where it starts; width= and height=, its size in the plane
   m=          its M-index, none where it has none; greater lies on top
-  C= S= ..    the start of each other letter that it has
+  C= S= ..    the start of each other letter that it has; of a letter along which
+              it has layers, the first and the last as Z=5..7, of which --start
+              takes one
   pyramid=    yes where it is stored in another size: no plane shows it
   mask=       width and height of its mask as 25x16, or none
-With --json an array of objects, each with the release too. Exits 2 where the
-file is refused.
+With --json an array of objects, each with the release too, and with layers:
+letter, start and size, or null. Exits 2 where the file is refused.
 ~
 ";
 
@@ -120,7 +125,8 @@ const EXTRACT: &str = "\
 usage: czi extract FILE PART --out PATH [--force] [--release 1.02|1.2]
 
 Writes the very bytes of a part of the file. PART is one of
-  --tile N --pixels            the pixels of a tile, as they are stored
+  --tile N --pixels            the pixels of a tile, as they are stored; of all of
+                               its layers, one behind the other
   --tile N --metadata          the metadata of its sub-block
   --tile N --tile-attachment   the attachment of its sub-block
   --xml                        the common XML; empty where there is none
@@ -147,7 +153,10 @@ const QUESTION: &str =
                      among them are refused as 23, and both are named. One that
                      is not listed is refused as 21 of any file
   --start C=1        tiles that start at 1 along C, for any letter but X, Y and
-                     M; 0 unless given; may be given once for each letter
+                     M; 0 unless given; may be given once for each letter. Of a
+                     tile with layers, such as the focal planes of a stack, the
+                     layer that starts there: --start Z=6. A tile that has no
+                     such layer is not selected
   --scene any|N      all scenes, or the one that starts at N; the same as
                      --start S=N; 0 unless given
 ";
@@ -155,6 +164,14 @@ const QUESTION: &str =
 /// What `count` and `compose` share besides.
 const MASKS: &str = "  --masks on|off     leave out the pixels that a tile's mask calls invalid;
                      off unless asked for
+";
+
+/// What the last line of these three says of layers.
+const LAYERS: &str = "\
+Where tiles other than pyramid tiles have layers, the start along their letter is
+said even where it is 0, and so is layers=, by letter the first and the last layer
+of all of these tiles, whatever the scene: Z:5..8, or C:1..2,Z:5..7. Tiles of one
+plane are not in it, and gaps are not shown: a start within may select nothing.
 ";
 
 /// What every command with a file takes.
@@ -190,8 +207,10 @@ cut, which depends on the jobs; the counts do not), and a line with what was
 chosen: tiles= (of the file), selected= (of these), meet= (of these, how many
 share a pixel with the window), release= (1.2 or 1.02), masks=, scene=, the
 starts that are not 0, type= (none where none is given and the file has no tile),
-window=. A file without a box covers nothing. A run of more than a second shows
-how far it is where standard error is a terminal.
+window=.
+&
+A file without a box covers nothing. A run of more than a second shows how far it
+is where standard error is a terminal.
 ";
 
 const COMPOSE: &str = "\
@@ -219,9 +238,10 @@ standard error then. Without either, nothing is written but these lines:
 pixels=, covered=, stored= (how many pixels were stored from tiles), and a line
 with what was chosen: tiles= (of the file), selected= (of these), meet= (of these,
 how many share a pixel with the window), release= (1.2 or 1.02), masks=,
-scene=, the starts that are not 0, type=, window=. The plane is composed by
-windows of whole rows, so that at most 512 MiB are taken; what goes to standard
-output is held in memory until all of it is there.
+scene=, the starts that are not 0, type=, window=.
+&
+The plane is composed by windows of whole rows, so that at most 512 MiB are taken;
+what goes to standard output is held in memory until all of it is there.
 ";
 
 const QUOTE: &str = "\
@@ -260,10 +280,13 @@ width_mm= and height_mm= (the window's sides by the pitches: hold them against
 the part that was scanned), edition=, pitch_x_nm= and pitch_y_nm= (as the
 settings were read), note: for what to look at twice (masks= is in no line; the
 release has no masks; two pitches; tiles are left out), and a line with what was
-chosen, as czi count has it. The window's sides are 1 to 65536 pixels, and it is
-composed whole, in as much memory as its pixels take; where that is too much, the
-areas of its parts add up to its own. A sheet that was there stays where the run
-is refused: look at the exit code. docs/QUOTE.md says more.
+chosen, as czi count has it.
+&
+The areas of layers are not to be added: they are of the same ground. The window's
+sides are 1 to 65536 pixels, and it is composed whole, in as much memory as its
+pixels take; where that is too much, the areas of its parts add up to its own. A
+sheet that was there stays where the run is refused: look at the exit code.
+docs/QUOTE.md says more.
 ";
 
 const REPACK: &str = "\
@@ -345,7 +368,7 @@ const ADVICE: [(u32, &str); 28] = [
     ),
     (
         11,
-        "save it anew with one plane in each sub-block; else damaged",
+        "several planes in a sub-block lie along one letter, which is neither M nor S and stands behind Y, and are at most 1024: save it anew so, or with one plane in each; else damaged",
     ),
     (12, "convert it"),
     (13, "save it anew without compression"),
@@ -442,7 +465,12 @@ pub fn text(command: Option<&str>) -> Option<String> {
         Some("refusals") => return Some(refusals()),
         Some(_) => return None,
     };
-    let parts = [("@\n", QUESTION), ("%\n", MASKS), ("~\n", RELEASE)];
+    let parts = [
+        ("@\n", QUESTION),
+        ("%\n", MASKS),
+        ("&\n", LAYERS),
+        ("~\n", RELEASE),
+    ];
     let whole = parts.iter().fold(text.to_string(), |text, (mark, part)| {
         text.replace(mark, part)
     });

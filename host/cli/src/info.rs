@@ -38,11 +38,13 @@ struct Scene {
     edges: Option<Edges>,
 }
 
-/// The least and the greatest start of a letter, and how many tiles have it.
+/// The least and the greatest start of a letter, those of layers too, how many tiles
+/// have it, and how many of these have layers along it.
 struct Range {
     least: i32,
     greatest: i32,
     tiles: u64,
+    layered_tiles: u64,
 }
 
 struct Info {
@@ -105,8 +107,11 @@ impl Info {
                 least,
                 greatest,
                 tiles,
+                layered_tiles,
             } = range;
-            lines += &format!("letter={letter} tiles={tiles} least={least} greatest={greatest}\n");
+            lines += &format!(
+                "letter={letter} tiles={tiles} least={least} greatest={greatest} layered_tiles={layered_tiles}\n"
+            );
         }
         for attachment in &self.attachments {
             lines += &format!(
@@ -136,9 +141,11 @@ impl Info {
                 least,
                 greatest,
                 tiles,
+                layered_tiles,
             } = range;
             format!(
-                "{{\"letter\":\"{letter}\",\"tiles\":{tiles},\"least\":{least},\"greatest\":{greatest}}}"
+                "{{\"letter\":\"{letter}\",\"tiles\":{tiles},\"least\":{least},\"greatest\":{greatest},\
+                 \"layered_tiles\":{layered_tiles}}}"
             )
         });
         let attachments = self.attachments.iter().map(|attachment| {
@@ -258,14 +265,18 @@ fn letters_of(all: &[Record]) -> BTreeMap<char, Range> {
     for record in all {
         let m = record.tile.m.map(|start| ('M', start));
         for (letter, start) in starts(record).chain(m) {
+            let layers = record.tile.layers.filter(|layers| layers.letter == letter);
+            let last = layers.map_or(start, |layers| layers.last());
             let range = letters.entry(letter).or_insert(Range {
                 least: start,
-                greatest: start,
+                greatest: last,
                 tiles: 0,
+                layered_tiles: 0,
             });
             range.least = range.least.min(start);
-            range.greatest = range.greatest.max(start);
+            range.greatest = range.greatest.max(last);
             range.tiles += 1;
+            range.layered_tiles += u64::from(layers.is_some());
         }
     }
     letters

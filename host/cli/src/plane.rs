@@ -2,6 +2,7 @@
 
 use crate::failure::Failure;
 use crate::question::Question;
+use crate::records;
 use crate::refused::{explain, Asked};
 use crate::types;
 use crate::window::Window;
@@ -29,6 +30,8 @@ pub struct Plane<'a> {
     pub summary: Summary,
     /// The window; nothing where none is given and the file has no box.
     pub window: Option<Window>,
+    /// The tiles.
+    tiles: Vec<Tile>,
     /// A mark for each tile, as the library gives it for that window.
     marks: Vec<u8>,
     /// How many tiles are selected, and how many of them meet the window.
@@ -52,6 +55,7 @@ impl<'a> Plane<'a> {
             question,
             summary,
             window,
+            tiles: czi::tiles(scan)?.collect(),
             marks,
             chosen,
             side: if is_cut { u32::MAX } else { 65_536 },
@@ -89,15 +93,14 @@ impl<'a> Plane<'a> {
     /// refused whatever is lent is refused here, and then 23 of the whole window, at
     /// the first tile of another type in the directory, however it is cut later.
     pub fn pixel_type(&self) -> Result<Option<u32>, Failure> {
-        let tiles: Vec<Tile> = czi::tiles(self.scan)?.collect();
-        let marked = tiles.iter().zip(&self.marks);
+        let marked = self.tiles.iter().zip(&self.marks);
         let meeting = marked.filter(|(_, mark)| **mark == MEETS);
         let mut meeting = meeting.map(|(tile, _)| tile);
         let given = self.question.pixel_type;
         let one = match given {
             Some(_) => None,
             // Where none meets the window the type makes no difference.
-            None => meeting.next().or(tiles.first()),
+            None => meeting.next().or(self.tiles.first()),
         };
         // Without a window a type that is not listed is refused all the same.
         let window = self.window.unwrap_or(ONE_PIXEL);
@@ -134,10 +137,10 @@ impl<'a> Plane<'a> {
     }
 
     /// How many tiles are left out, pyramid tiles aside, and of how many.
-    pub fn left_out(&self) -> Result<(u64, u64), Failure> {
-        let tiles = czi::tiles(self.scan)?.filter(|tile| !tile.is_pyramid_tile());
+    pub fn left_out(&self) -> (u64, u64) {
+        let tiles = self.tiles.iter().filter(|tile| !tile.is_pyramid_tile());
         let all = tiles.count() as u64;
-        Ok((all.saturating_sub(self.chosen.selected), all))
+        (all.saturating_sub(self.chosen.selected), all)
     }
 
     /// 20 and 21, before memory is taken: they go before 22, which is given where
@@ -177,13 +180,15 @@ impl<'a> Plane<'a> {
         explain(self.scan, &asked, failure)
     }
 
-    /// The line that says what was chosen; the release always, so that one that was
+    /// The line that says what was chosen; the release always, and where tiles have
+    /// layers the start along their letter and which there are, so that one that was
     /// forgotten is seen.
     pub fn chosen(&self, pixel_type: Option<u32>) -> String {
         let listed = pixel_type.and_then(|number| PixelType::of_number(number.into()));
         let named = listed.map_or("none", types::name);
         let window = self.window.map_or("none".to_string(), |w| w.to_string());
-        let (tiles, question) = (self.summary.tiles, self.question);
+        let tiles = self.summary.tiles;
+        let question = self.question.said(&records::layers(&self.tiles));
         let ChosenCounts { selected, meeting } = self.chosen;
         let release = self.scan.release;
         format!(

@@ -6,7 +6,7 @@ use crate::failure::Failure;
 use crate::types;
 use crate::window::Window;
 use czi::calls::Plain;
-use std::fmt;
+use std::collections::BTreeMap;
 
 /// Where S stands among the letters.
 const SCENE: usize = 18;
@@ -80,23 +80,28 @@ impl Question {
             masks: if self.masks { 1 } else { 2 },
         }
     }
-}
 
-/// What was chosen of masks, scene and starts, but starts of 0.
-impl fmt::Display for Question {
-    fn fmt(&self, f: &mut fmt::Formatter<'_>) -> fmt::Result {
+    /// What was chosen of masks, scene and starts, but starts of 0 along letters
+    /// without layers; and the layers that there are, by letter the first and the last.
+    pub fn said(&self, layers: &BTreeMap<char, (i32, i32)>) -> String {
         let masks = if self.masks { "on" } else { "off" };
-        write!(f, "masks={masks} scene=")?;
-        match self.any_scene {
-            true => write!(f, "any")?,
-            false => write!(f, "{}", self.starts[SCENE])?,
-        }
+        let scene = match self.any_scene {
+            true => "any".to_string(),
+            false => self.starts[SCENE].to_string(),
+        };
+        let mut said = format!("masks={masks} scene={scene}");
         for (letter, start) in ('A'..='Z').zip(self.starts) {
-            if start != 0 && letter != 'S' {
-                write!(f, " {letter}={start}")?;
+            if letter != 'S' && (start != 0 || layers.contains_key(&letter)) {
+                said += &format!(" {letter}={start}");
             }
         }
-        Ok(())
+        let layers = layers.iter();
+        let layers = layers.map(|(letter, (first, last))| format!("{letter}:{first}..{last}"));
+        let layers: Vec<String> = layers.collect();
+        if !layers.is_empty() {
+            said += &format!(" layers={}", layers.join(","));
+        }
+        said
     }
 }
 
@@ -141,9 +146,25 @@ fn parse_start(word: &str) -> Result<(usize, i32), Failure> {
     let (letter, start) = word.split_once('=').ok_or_else(wrong)?;
     match letter.as_bytes() {
         [b'X' | b'Y' | b'M'] => Err(usage(format!("--start: {letter} has no start to ask for"))),
-        [letter @ b'A'..=b'Z'] => Ok((usize::from(letter - b'A'), number(start, "--start")?)),
+        [index @ b'A'..=b'Z'] => match start.split_once("..") {
+            None => Ok((usize::from(index - b'A'), number(start, "--start")?)),
+            // As czi tiles shows the layers of a tile.
+            Some((first, _)) => Err(a_range(letter, first, word)),
+        },
         _ => Err(wrong()),
     }
+}
+
+/// What is said of a range, by its letter; what it offers would be taken.
+fn a_range(letter: &str, first: &str, word: &str) -> Failure {
+    let one = match first.parse::<i32>() {
+        Ok(_) => format!("as {letter}={first}"),
+        Err(_) => "by its number".to_string(),
+    };
+    usage(match letter {
+        "S" => format!("--start S takes one scene, {one}, not {word:?}; --scene any takes all"),
+        _ => format!("--start takes one layer, {one}, not {word:?}"),
+    })
 }
 
 fn parse_hex(word: &str) -> Result<Vec<u8>, Failure> {
@@ -154,4 +175,30 @@ fn parse_hex(word: &str) -> Result<Vec<u8>, Failure> {
     };
     let bytes: Option<Vec<u8>> = word.as_bytes().chunks(2).map(byte).collect();
     bytes.ok_or_else(|| usage(format!("--background: {word:?} is not pairs of hex digits")))
+}
+
+#[cfg(test)]
+mod tests {
+    use super::*;
+
+    #[test]
+    fn a_start_of_0_is_said_where_there_are_layers() {
+        let mut question = Question {
+            window: None,
+            pixel_type: None,
+            starts: [0; 26],
+            any_scene: false,
+            masks: true,
+            background: None,
+        };
+        let none = BTreeMap::new();
+        let layers = BTreeMap::from([('Z', (5, 8)), ('C', (-1, 0))]);
+        assert_eq!(question.said(&none), "masks=on scene=0");
+        let said = "masks=on scene=0 C=0 Z=0 layers=C:-1..0,Z:5..8";
+        assert_eq!(question.said(&layers), said);
+        (question.starts[19], question.starts[25], question.any_scene) = (-4, 6, true);
+        assert_eq!(question.said(&none), "masks=on scene=any T=-4 Z=6");
+        let said = "masks=on scene=any C=0 T=-4 Z=6 layers=C:-1..0,Z:5..8";
+        assert_eq!(question.said(&layers), said);
+    }
 }

@@ -186,7 +186,7 @@ fn quote(plane: &Plane, settings: &[u8], places: &Places) -> Result<(Vec<Sink>, 
         let wide = millimetres(u64::from(window.width) * said.pitch_x);
         let high = millimetres(u64::from(window.height) * said.pitch_y);
         lines += &format!("width_mm={wide} height_mm={high}\n{said}\n");
-        for note in notes(plane, settings, &said)? {
+        for note in notes(plane, settings, &said) {
             lines += &format!("note: {note}\n");
         }
     }
@@ -195,7 +195,7 @@ fn quote(plane: &Plane, settings: &[u8], places: &Places) -> Result<(Vec<Sink>, 
 }
 
 /// What a person should look at before the sheet is used.
-fn notes(plane: &Plane, settings: &[u8], said: &Said) -> Result<Vec<String>, Failure> {
+fn notes(plane: &Plane, settings: &[u8], said: &Said) -> Vec<String> {
     let mut notes = Vec::new();
     let masks = plane.question.masks;
     if !settings::say_masks(settings) {
@@ -211,13 +211,13 @@ fn notes(plane: &Plane, settings: &[u8], said: &Said) -> Result<Vec<String>, Fai
     if said.pitch_x != said.pitch_y {
         notes.push("pitch_x and pitch_y differ".to_string());
     }
-    let (left_out, all) = plane.left_out()?;
+    let (left_out, all) = plane.left_out();
     if left_out != 0 {
         notes.push(format!(
-            "{left_out} of {all} tiles are left out (scene, channel or another start)"
+            "{left_out} of {all} tiles are left out (scene, channel, layer or another start)"
         ));
     }
-    Ok(notes)
+    notes
 }
 
 /// A refusal of a window that is too large, with what to do about it.

@@ -37,7 +37,11 @@ pub fn run(words: Vec<OsString>) -> Result<Answer, Failure> {
 fn line(record: &Record) -> String {
     let tile = &record.tile;
     let m = tile.m.map_or("none".to_string(), |m| m.to_string());
-    let starts: String = starts(record).map(|(l, s)| format!(" {l}={s}")).collect();
+    let start = |(letter, start)| match &tile.layers {
+        Some(layers) if layers.letter == letter => format!(" {letter}={start}..{}", layers.last()),
+        _ => format!(" {letter}={start}"),
+    };
+    let starts: String = starts(record).map(start).collect();
     let pyramid = if tile.is_pyramid_tile() { "yes" } else { "no" };
     let mask = match &tile.mask {
         None => "none".to_string(),
@@ -61,13 +65,21 @@ fn object(record: &Record, release: Release) -> String {
     let starts: Vec<String> = starts(record)
         .map(|(l, s)| format!("\"{l}\":{s}"))
         .collect();
+    let layers = match &tile.layers {
+        None => "null".to_string(),
+        Some(layers) => format!(
+            "{{\"letter\":\"{}\",\"start\":{},\"size\":{}}}",
+            layers.letter, layers.start, layers.size
+        ),
+    };
     let mask = match &tile.mask {
         None => "null".to_string(),
         Some(mask) => format!("{{\"width\":{},\"height\":{}}}", mask.width, mask.height),
     };
     format!(
         "{{\"tile\":{},\"type\":\"{}\",\"x\":{},\"y\":{},\"width\":{},\"height\":{},\"m\":{m},\
-         \"starts\":{{{}}},\"pyramid\":{},\"mask\":{mask},\"release\":\"{release}\"}}",
+         \"starts\":{{{}}},\"layers\":{layers},\"pyramid\":{},\"mask\":{mask},\
+         \"release\":\"{release}\"}}",
         tile.entry,
         types::name(tile.pixel_type),
         tile.x.start,

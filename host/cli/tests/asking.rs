@@ -5,14 +5,7 @@ mod support;
 
 use std::fs;
 use support::mosaic::{gray16, gray8, mosaic, Tile};
-use support::{czi, fails, is_failure, said, sample, shell, Folder};
-
-/// What it prints, where it succeeds and says nothing else.
-fn prints(arguments: &[&str]) -> String {
-    let (code, out, err) = said(&czi(arguments));
-    assert_eq!((code, err.as_str()), (0, ""), "{arguments:?}: {out}");
-    out
-}
+use support::{czi, fails, is_failure, prints, said, sample, shell, Folder};
 
 #[test]
 fn a_line_a_tile() {
@@ -26,8 +19,8 @@ fn a_line_a_tile() {
     let json = prints(&["tiles", "--json", &file]);
     let second =
         "{\"tile\":1,\"type\":\"gray8\",\"x\":118,\"y\":60,\"width\":24,\"height\":16,\"m\":1,\
-        \"starts\":{\"C\":0,\"S\":0},\"pyramid\":false,\"mask\":{\"width\":24,\"height\":16},\
-        \"release\":\"1.2\"}";
+        \"starts\":{\"C\":0,\"S\":0},\"layers\":null,\"pyramid\":false,\
+        \"mask\":{\"width\":24,\"height\":16},\"release\":\"1.2\"}";
     assert_eq!(json.lines().nth(1), Some(&*format!("{second},")));
     let ending = "\"mask\":null,\"release\":\"1.2\"}]\n";
     assert!(json.starts_with("[{\"tile\":0,") && json.ends_with(ending));
@@ -84,14 +77,14 @@ fn figures_that_explain_a_count() {
                   type=gray8 tiles=2\ntype=gray16 tiles=1\n\
                   scene=0 tiles=2 pyramid_tiles=0 box=0,0,10,5\n\
                   scene=3 tiles=1 pyramid_tiles=0 box=-50,-60,-40,-40\n\
-                  letter=S tiles=3 least=0 greatest=3\n";
+                  letter=S tiles=3 least=0 greatest=3 layered_tiles=0\n";
     assert_eq!(more, wanted);
     let json = prints(&["info", &file, "--json"]);
     for part in [
         "\"box\":{\"left\":-50,\"top\":-60,\"right\":10,\"bottom\":5}",
         "\"types\":[{\"type\":\"gray8\",\"tiles\":2},{\"type\":\"gray16\",\"tiles\":1}]",
         "{\"scene\":3,\"tiles\":1,\"pyramid_tiles\":0,\"box\":{\"left\":-50,\"top\":-60,\"right\":-40,\"bottom\":-40}}]",
-        "\"letters\":[{\"letter\":\"S\",\"tiles\":3,\"least\":0,\"greatest\":3}]",
+        "\"letters\":[{\"letter\":\"S\",\"tiles\":3,\"least\":0,\"greatest\":3,\"layered_tiles\":0}]",
         "\"attachments\":[]}\n",
     ] {
         assert!(json.contains(part), "{part} in {json}");

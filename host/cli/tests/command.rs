@@ -27,9 +27,9 @@ fn info_says_the_figures_of_a_file_of_any_size() {
     let mut wanted = fs::read_to_string(sample("mosaic.txt")).unwrap();
     wanted += "release=1.2\npyramid_tiles=0\nmasked_tiles=1\ntype=gray8 tiles=4\n";
     wanted += "scene=0 tiles=4 pyramid_tiles=0 box=100,60,143,88\n";
-    wanted += "letter=C tiles=4 least=0 greatest=0\n";
-    wanted += "letter=M tiles=4 least=0 greatest=3\n";
-    wanted += "letter=S tiles=4 least=0 greatest=0\n";
+    wanted += "letter=C tiles=4 least=0 greatest=0 layered_tiles=0\n";
+    wanted += "letter=M tiles=4 least=0 greatest=3 layered_tiles=0\n";
+    wanted += "letter=S tiles=4 least=0 greatest=0 layered_tiles=0\n";
     wanted += "attachment=0 bytes=40 guid={13121110-1514-1716-1819-1A1B1C1D1E1F} ";
     wanted += "type=\"CZTIMS\" name=\"TimeStamps\"\n";
     assert_eq!(said(&czi(&["info", &sample("mosaic.czi")])).1, wanted);

@@ -176,7 +176,7 @@ fn notes_are_said_before_the_last_line() {
     };
     let pitches = "note: pitch_x and pitch_y differ";
     let left_out = |n: u32| {
-        let why = "tiles are left out (scene, channel or another start)";
+        let why = "tiles are left out (scene, channel, layer or another start)";
         format!("{pitches}\nnote: {n} of 3 {why}")
     };
     assert_eq!(notes(&["--scene=any"]), pitches);

@@ -3,14 +3,7 @@
 mod support;
 
 use std::fs;
-use support::{czi, fails, said, sample, samples, Folder};
-
-/// What it prints, where it succeeds and says nothing else.
-fn prints(arguments: &[&str]) -> String {
-    let (code, out, err) = said(&czi(arguments));
-    assert_eq!((code, err.as_str()), (0, ""), "{arguments:?}: {out}");
-    out
-}
+use support::{fails, prints, sample, samples, Folder};
 
 #[test]
 fn every_sample_is_listed_as_stored_under_each_release() {

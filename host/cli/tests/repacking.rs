@@ -10,21 +10,14 @@ use std::process::{Command, Stdio};
 use std::time::{Duration, Instant};
 use support::mosaic::{crowded, gray8, mosaic};
 use support::{
-    czi, fails, is_failure, kill, said, sample, samples, shell, signals, until_mapped, waiting,
-    Folder, CZI, SIDE,
+    czi, fails, is_failure, kill, prints, said, sample, samples, shell, signals, until_mapped,
+    waiting, Folder, CZI, SIDE,
 };
 
 const FIGURES: &str = "bytes_before=9280\nbytes_after=4096\n\
                        segments_before=14\nsegments_after=9\n\
                        segments_dropped=6\nsegments_repeated=1\n";
 const NOTE: &str = "note: a segment that is listed more than once is written as often\n";
-
-/// What it prints, where it succeeds and says nothing else.
-fn prints(arguments: &[&str]) -> String {
-    let (code, out, err) = said(&czi(arguments));
-    assert_eq!((code, err.as_str()), (0, ""), "{arguments:?}: {out}");
-    out
-}
 
 fn repacked() -> Vec<u8> {
     fs::read(sample("dead_repacked.czi")).unwrap()

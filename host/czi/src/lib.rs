@@ -50,7 +50,7 @@ mod scan;
 mod tiles;
 
 /// `CZI_VERSION` of the header that this crate was written for.
-pub const VERSION: u32 = 2;
+pub const VERSION: u32 = 3;
 
 /// No accepted file has more tiles; more are refused as 10.
 pub const MOST_TILES: usize = 4096;
@@ -69,7 +69,7 @@ pub use reader::{
     attachment_data, common_attachment, common_xml, dimension, judge, list, summary, tile,
     tile_attachment, tile_metadata, tile_pixels,
 };
-pub use records::{Dimension, Edges, Extent, Mask, Summary, Tile};
+pub use records::{Dimension, Edges, Extent, Layers, Mask, Summary, Tile};
 pub use refusal::{Reason, Refusal};
 pub use repack::{repack, repack_size, repacked};
 pub use scan::{Release, Scan};

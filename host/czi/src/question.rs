@@ -41,7 +41,8 @@ pub enum Masks {
 #[derive(Clone, Copy, Debug)]
 pub struct Question<'a> {
     /// Starts for A to Z in order; what is missing is 0, what is past 26 is
-    /// ignored, as are those of X, Y and M.
+    /// ignored, as are those of X, Y and M. A tile with layers is selected by the
+    /// start of any of them, and gives the pixels of that one.
     pub starts: &'a [i32],
     /// Which scenes.
     pub scene: Scene,

@@ -21,7 +21,8 @@ fn part(file: &[u8], answer: Answer<Span>) -> Result<&[u8], Refusal> {
 }
 
 /// The pixels of a tile, the very bytes of the lent file; `entry` counts the
-/// entries of the sub-block directory from 0.
+/// entries of the sub-block directory from 0. They are those of all of its layers,
+/// one behind the other: [`Tile::layer_pixels`] says where each lies.
 ///
 /// Refusals: those of [`judge`]; 24 where there is no such entry.
 pub fn tile_pixels<'a>(scan: impl Into<Scan<'a>>, entry: u64) -> Result<&'a [u8], Refusal> {

@@ -15,7 +15,27 @@ pub struct Extent {
     pub stored: u64,
 }
 
-/// A tile's valid-pixel mask.
+/// Several planes of a tile's pixels in one sub-block, such as the focal planes of
+/// a stack. A question selects the tile by the start of any of them, and gets the
+/// pixels of that one.
+#[derive(Clone, Copy, Debug, PartialEq, Eq)]
+pub struct Layers {
+    /// The letter along which they lie, none of X, Y, M and S.
+    pub letter: char,
+    /// The start of the first.
+    pub start: i32,
+    /// How many they are: 2 to 1,024.
+    pub size: u64,
+}
+
+impl Layers {
+    /// The start of the last.
+    pub fn last(&self) -> i32 {
+        (i64::from(self.start) + self.size as i64 - 1) as i32
+    }
+}
+
+/// A tile's valid-pixel mask, which is that of each of its layers.
 #[derive(Clone, Copy, Debug, PartialEq, Eq)]
 pub struct Mask {
     /// Where its chunk's header stands; the lines are from 36 bytes later on.
@@ -49,9 +69,11 @@ pub struct Tile {
     pub y: Extent,
     /// The start of M, if it has one.
     pub m: Option<i32>,
+    /// Its layers, if it has any.
+    pub layers: Option<Layers>,
     /// The offsets of its sub-block's metadata.
     pub metadata: Range<usize>,
-    /// The offsets of its pixels.
+    /// The offsets of its pixels: of all of its layers, one behind the other.
     pub pixels: Range<usize>,
     /// The offsets of its sub-block's attachment.
     pub attachment: Range<usize>,
@@ -63,6 +85,31 @@ impl Tile {
     /// Is it a pyramid tile, which no plane shows and no box counts?
     pub fn is_pyramid_tile(&self) -> bool {
         self.x.stored != self.x.size || self.y.stored != self.y.size
+    }
+
+    /// The offsets of the pixels of the layer that starts there; nothing where the
+    /// tile has no such layer, or no layers.
+    ///
+    /// ```
+    /// # fn main() -> Result<(), Box<dyn std::error::Error>> {
+    /// let file = std::fs::read("../samples/stack.czi")?;
+    /// let tile = czi::tile(&file, 0)?;
+    /// let layers = tile.layers.ok_or("one plane")?;
+    /// assert_eq!((layers.letter, layers.start, layers.last()), ('Z', 5, 7));
+    /// let middle = tile.layer_pixels(6).ok_or("no such layer")?;
+    /// assert_eq!(file[middle].len() * 3, czi::tile_pixels(&file, 0)?.len());
+    /// # Ok(())
+    /// # }
+    /// ```
+    pub fn layer_pixels(&self, start: i32) -> Option<Range<usize>> {
+        let layers = self.layers?;
+        let before = u64::try_from(i64::from(start) - i64::from(layers.start)).ok()?;
+        if before >= layers.size {
+            return None;
+        }
+        let length = self.pixels.len() / layers.size as usize;
+        let from = self.pixels.start + before as usize * length;
+        Some(from..from + length)
     }
 }
 
@@ -136,7 +183,7 @@ impl TileRecord {
     /// part has no end, which is so of no tile of an accepted file.
     pub fn named(&self) -> Option<Tile> {
         let n = &self.numbers;
-        let [x, y, m] = self.starts;
+        let [x, y, m, layer] = self.starts;
         let extent = |start, at: usize| Extent {
             start,
             size: n[at],
@@ -159,6 +206,11 @@ impl TileRecord {
             x: extent(x, 6),
             y: extent(y, 8),
             m: (n[10] != 0).then_some(m),
+            layers: (n[22] != 0).then_some(Layers {
+                letter: char::from(n[22] as u8),
+                start: layer,
+                size: n[23],
+            }),
             metadata: range(11)?,
             pixels: range(13)?,
             attachment: range(15)?,
@@ -206,7 +258,7 @@ impl Figures {
 
 #[cfg(test)]
 mod tests {
-    use super::{Edges, Span};
+    use super::{Edges, Layers, Span, Tile, TileRecord};
 
     #[test]
     fn a_range_does_not_wrap() {
@@ -215,6 +267,54 @@ mod tests {
         assert_eq!(range(u64::MAX, 0), Some(usize::MAX..usize::MAX));
         assert_eq!(range(u64::MAX, 1), None);
         assert_eq!(range(2, u64::MAX), None);
+    }
+
+    /// A tile with 60 bytes of pixels from 100 on.
+    fn tile(letter: u64, start: i32, size: u64) -> Tile {
+        let mut record = TileRecord::default();
+        (record.numbers[13], record.numbers[14]) = (100, 60);
+        (record.numbers[22], record.numbers[23]) = (letter, size);
+        record.starts[3] = start;
+        record.named().expect("type 0 is listed")
+    }
+
+    #[test]
+    fn a_layer_has_its_part_of_the_pixels() {
+        let stack = tile(b'Z'.into(), -1, 3);
+        let (letter, start, size) = ('Z', -1, 3);
+        assert_eq!(
+            stack.layers,
+            Some(Layers {
+                letter,
+                start,
+                size
+            })
+        );
+        for (start, wanted) in [
+            (-2, None),
+            (-1, Some(100..120)),
+            (0, Some(120..140)),
+            (1, Some(140..160)),
+            (2, None),
+            (i32::MIN, None),
+            (i32::MAX, None),
+        ] {
+            assert_eq!(stack.layer_pixels(start), wanted, "{start}");
+        }
+        let plane = tile(0, 0, 0);
+        assert_eq!((plane.layers, plane.layer_pixels(0)), (None, None));
+    }
+
+    #[test]
+    fn the_last_layer_of_the_plane_does_not_wrap() {
+        for (start, size, last) in [
+            (i32::MAX - 2, 2, i32::MAX - 1),
+            (i32::MIN, 1024, i32::MIN + 1023),
+        ] {
+            let stack = tile(b'T'.into(), start, size);
+            assert_eq!(stack.layers.map(|layers| layers.last()), Some(last));
+            assert!(stack.layer_pixels(last).is_some());
+        }
     }
 
     #[test]

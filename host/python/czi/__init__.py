@@ -8,6 +8,8 @@ the words of the rule. Each call judges the whole file first; tiles and all_reco
 A file is judged by release "1.2" of the format, or by "1.02" where release says so: then no tile has a mask, and 17 and 18 are
 never raised. "1.02" is for a file that was archived under it and no other, whose masks would be forgotten.
 
+A tile may have layers, such as the focal planes of a stack: starts={"Z": 6} takes the one that starts there.
+
     import czi, mmap
     with open("scan.czi", "rb") as scan:
         file = mmap.mmap(scan.fileno(), 0, access=mmap.ACCESS_READ)
@@ -28,13 +30,13 @@ from .plane import Plane, chosen, compose
 from .quoting import Quote, quote
 from .reader import (all_records, attachment, attachment_data, attachments, common_attachment, common_xml, dimensions, judge,
                      listing, summary, tile, tile_attachment, tile_metadata, tile_pixels, tiles)
-from .records import Attachment, Box, Chosen, Dimension, Extent, Mark, Mask, Record, Summary, Tile
+from .records import Attachment, Box, Chosen, Dimension, Extent, Layers, Mark, Mask, Record, Summary, Tile
 from .refusal import Refused
 from .repacking import repack, repack_size
 
 __all__ = [
-    "Attachment", "Box", "Chosen", "Count", "Dimension", "Extent", "Mark", "Mask", "PixelType", "Plane", "Quote", "Record",
-    "Refused", "Summary", "Tile", "VERSION", "all_records", "attachment", "attachment_data", "attachments", "chosen",
+    "Attachment", "Box", "Chosen", "Count", "Dimension", "Extent", "Layers", "Mark", "Mask", "PixelType", "Plane", "Quote",
+    "Record", "Refused", "Summary", "Tile", "VERSION", "all_records", "attachment", "attachment_data", "attachments", "chosen",
     "common_attachment", "common_xml", "compose", "count", "dimensions", "judge", "listing", "pixel_bytes",
     "quote", "repack", "repack_size", "summary", "tile", "tile_attachment", "tile_metadata", "tile_pixels", "tiles",
 ]

@@ -56,6 +56,13 @@ def apart(written, others):
                 raise ValueError(f"{name} and {other} share bytes")
 
 
+def whole(value, name):
+    """The whole number. A bool is none: what is true could be meant for something else."""
+    if isinstance(value, bool) or not hasattr(value, "__index__"):
+        raise TypeError(f"{name} is {value!r}, and has to be a whole number")
+    return operator.index(value)
+
+
 def fitting(value, bits, name, signed=False):
     """The number, if it has so many bits: the library would be asked about another one."""
     number = operator.index(value)

@@ -6,7 +6,7 @@ from ctypes import POINTER, c_int32, c_size_t, c_uint32, c_uint64, c_void_p
 from pathlib import Path
 
 # CZI_VERSION of the header that this was written for; the soname has it too.
-VERSION = 2
+VERSION = 3
 
 # The numbers of the releases.
 RELEASE_1_2 = 0
@@ -15,8 +15,8 @@ RELEASE_1_02 = 1
 # The lengths of the arrays that the library writes; the least one of a sheet.
 TEXT = 192
 SHEET_MIN = 49
-TILE_NUMBERS = 22
-TILE_STARTS = 3
+TILE_NUMBERS = 24
+TILE_STARTS = 4
 DIMENSION_NUMBERS = 5
 ATTACHMENT_GUID = 16
 ATTACHMENT_FILE_TYPE = 8

@@ -15,8 +15,9 @@ _WINDOW = 20
 
 class Count(NamedTuple):
     """What was counted, and into how many windows it was cut: their counts add up, which is proved. And how many tiles were
-    selected, and how many of these meet the window: fewer than the file has where a scene or a channel was forgotten. And by
-    which release the file was judged, "1.2" or "1.02"."""
+    selected, and how many of these meet the window. Fewer are selected than the file has where a scene or a channel was
+    forgotten, and where there are pyramid tiles, which never are. A forgotten layer does not show where layers begin at 0:
+    the first is taken then. And by which release the file was judged, "1.2" or "1.02"."""
 
     covered: int
     pixels: int

@@ -1,9 +1,10 @@
 """Composing a plane, and which tiles a question selects for it."""
 
+from collections.abc import Mapping
 from ctypes import byref, c_int32, c_uint64
 from dataclasses import dataclass, field
 
-from ._lending import apart, fitting, lent
+from ._lending import apart, fitting, lent, whole
 from ._library import MOST_TILES, library
 from .pixel import PixelType, pixel_bytes
 from .reader import ask, summary, tiles
@@ -40,7 +41,8 @@ def compose(file, window=None, pixel_type=None, *, starts=None, scene=0, masks=F
                  right and bottom, is not taken: its property window is.
     pixel_type   the target's; unless given that of the selected tiles that meet the window, where they have one, or of the
                  first tile where none does
-    starts       where the tiles to select start, by letter: {"C": 1}. 0 for the letters that are not given.
+    starts       where the tiles to select start, by letter: {"C": 1}. 0 for the letters that are not given. A tile with layers
+                 is selected by the start of any of them, and gives the pixels of that one: {"Z": 6}.
     scene        where they start along S, or "any"
     masks        True: a tile gives only its valid pixels. False unless given; nothing else is taken.
     background   one pixel; zeros unless given
@@ -170,10 +172,13 @@ def window_numbers(window):
 def starts_of(starts, scene):
     """The starts of A to Z, and how many they are."""
     letters = (c_int32 * 26)()
+    if not isinstance(starts, (Mapping, type(None))):
+        raise TypeError(f"starts is {starts!r}, and has to be a dict of starts by letter, such as {{'C': 1}}")
     for letter, start in (starts or {}).items():
         if letter not in _SELECTING:
             raise ValueError(f"{letter!r} has no start to ask for: A to Z have, but X, Y, M, and S, which is scene")
-        letters[ord(letter) - ord("A")] = fitting(start, 32, f"the start of {letter}", signed=True)
+        name = f"the start of {letter}"
+        letters[ord(letter) - ord("A")] = fitting(whole(start, name), 32, name, signed=True)
     if isinstance(scene, bool):
         raise TypeError(f"scene is {scene!r}, and has to be a number or 'any'")
     if isinstance(scene, str) and scene != "any":

@@ -28,7 +28,8 @@ class Quote:
     map: object = field(repr=False)     # one bit a pixel in the same order, high bit first: 1 where a tile gave the pixel
     release: str        # by which the file was judged: "1.2" or "1.02"
     tiles: int          # how many the file has, pyramid tiles among them
-    selected: int       # how many were selected: fewer than there are where a scene or a channel was forgotten
+    selected: int       # how many were selected: fewer than there are where a scene or a channel was forgotten; a forgotten
+                        # layer does not show where layers begin at 0: the first is taken then
     meeting: int        # how many of these meet the window
     edition: int        # the settings as they were read: 1 or 2
     pitch_x_nm: int     # the pitches in nanometres

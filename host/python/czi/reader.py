@@ -36,7 +36,7 @@ def _part(call, file, release, *entry):
 
 
 def tile_pixels(file, entry, *, release="1.2"):
-    """The pixels of a tile, the very bytes of the file; 24 where there is no such entry."""
+    """The pixels of a tile, of all of its layers, the very bytes of the file; 24 where there is no such entry."""
     return _part(library.czi_tile_pixels, file, release, fitting(entry, 64, "entry"))
 
 

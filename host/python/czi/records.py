@@ -6,6 +6,7 @@ from dataclasses import dataclass
 from enum import IntEnum
 from typing import NamedTuple, Optional
 
+from ._lending import whole
 from .pixel import PixelType
 
 
@@ -17,8 +18,24 @@ class Extent(NamedTuple):
     stored: int
 
 
+class Layers(NamedTuple):
+    """Several planes of a tile's pixels in one sub-block, such as the focal planes of a stack: the letter along which they lie,
+    none of X, Y, M and S, the start of the first, and how many they are, 2 to 1,024. A question selects the tile by the start of
+    any of them, and gets the pixels of that one."""
+
+    letter: str
+    start: int
+    size: int
+
+    @property
+    def last(self):
+        """The start of the last."""
+        return self.start + self.size - 1
+
+
 class Mask(NamedTuple):
-    """A tile's mask: where its chunk's header stands (the lines are from 36 bytes later on), its sides, bytes a line."""
+    """A tile's mask, which is that of each of its layers: where its chunk's header stands (the lines are from 36 bytes later
+    on), its sides, bytes a line."""
 
     place: int
     width: int
@@ -39,8 +56,9 @@ class Tile:
     x: Extent
     y: Extent
     m: Optional[int]            # the start of M, if it has one
+    layers: Optional[Layers]    # its layers, if it has any
     metadata: slice
-    pixels: slice
+    pixels: slice               # of all of its layers, one behind the other
     attachment: slice
     mask: Optional[Mask]
 
@@ -48,6 +66,16 @@ class Tile:
     def is_pyramid_tile(self):
         """Is it one, which no plane shows and no box counts?"""
         return self.x.size != self.x.stored or self.y.size != self.y.stored
+
+    def layer_pixels(self, start):
+        """The pixels of the layer that starts there, as a slice of the file; None where the tile has no such layer, or no
+        layers."""
+        start = whole(start, "start")
+        if self.layers is None or not self.layers.start <= start <= self.layers.last:
+            return None
+        length = (self.pixels.stop - self.pixels.start) // self.layers.size
+        first = self.pixels.start + (start - self.layers.start) * length
+        return slice(first, first + length)
 
 
 class Dimension(NamedTuple):
@@ -154,6 +182,7 @@ def tile_of(numbers, starts):
         x=Extent(starts[0], numbers[6], numbers[7]),
         y=Extent(starts[1], numbers[8], numbers[9]),
         m=starts[2] if numbers[10] else None,
+        layers=Layers(chr(numbers[22]), starts[3], numbers[23]) if numbers[22] else None,
         metadata=part(11), pixels=part(13), attachment=part(15),
         mask=Mask(*numbers[18:22]) if numbers[17] else None)
 

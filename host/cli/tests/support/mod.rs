@@ -53,6 +53,13 @@ pub fn is_failure(output: &Output, code: i32, words: &str) {
     assert_eq!(err.matches('\n').count(), 1, "{words}: {err}");
 }
 
+/// What it prints, where it succeeds and says nothing else.
+pub fn prints(arguments: &[&str]) -> String {
+    let (code, out, err) = said(&czi(arguments));
+    assert_eq!((code, err.as_str()), (0, ""), "{arguments:?}: {out}");
+    out
+}
+
 pub fn fails(arguments: &[&str], code: i32, words: &str) {
     is_failure(&czi(arguments), code, words);
 }

@@ -37,10 +37,10 @@ pub const TEXT: usize = 192;
 pub const SHEET_MIN: usize = 49;
 
 /// How many numbers a tile record has.
-pub const TILE_NUMBERS: usize = 22;
+pub const TILE_NUMBERS: usize = 24;
 
-/// How many starts a tile record has: of X, Y and M.
-pub const TILE_STARTS: usize = 3;
+/// How many starts a tile record has: of X, Y, M and its layers.
+pub const TILE_STARTS: usize = 4;
 
 /// How many numbers a dimension has where all are asked for: the entry's number,
 /// letter, size, the bits of StartCoordinate and the stored size.
@@ -90,7 +90,7 @@ pub struct Span {
 pub struct TileRecord {
     /// The numbers.
     pub numbers: [u64; TILE_NUMBERS],
-    /// The starts of X, Y and M.
+    /// The starts of X, Y, M and its layers.
     pub starts: [i32; TILE_STARTS],
 }
 
@@ -187,7 +187,7 @@ fn common(function: Common, file: &[u8], release: u32) -> Answer<Span> {
     })
 }
 
-/// The pixels of a tile; 24 where there is no such entry.
+/// The pixels of a tile, of all of its layers; 24 where there is no such entry.
 pub fn tile_pixels(file: &[u8], release: u32, entry: u64) -> Answer<Span> {
     numbered(ffi::czi_tile_pixels, file, release, entry)
 }
