@@ -1,4 +1,6 @@
 // Judges what a question asks and lends: the refusals 20, 21, 22.
+#![tactic(auto)]
+
 ghost use Rattle.std.specs.Prelude.{◌≡◌, false, ◌+◌, ◌≤◌, ◌<◌, ◌^◌};
 ghost use Rattle.format.specs.Bytes.{shifted};
 ghost use Rattle.format.specs.Checks.{first};

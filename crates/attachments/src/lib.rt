@@ -1,5 +1,7 @@
 // Judges the metadata segment, the attachment directory and the attachments, and reads their fields. Where a function takes both, an entry lies in
 // the slice d and its attachment in the slice s.
+#![tactic(auto)]
+
 ghost use Rattle.std.specs.Prelude.{◌≡◌, ◌+◌, ◌<◌, ◌≤◌, ◌^◌, length, get_or, eqb};
 ghost use Rattle.format.specs.Bytes.{any_below};
 ghost use Rattle.format.specs.Checks.{first, rows_below};

@@ -1,4 +1,6 @@
 // The bits of a bit string, high bit first, as a coverage map or a line of a mask: one read, one set, a range set.
+#![tactic(auto)]
+
 ghost use Rattle.std.specs.Prelude.{◌≡◌, ◌&&◌, ◌+◌, ◌*◌, ◌%◌, ◌<◌, ◌≤◌, leb, ltb, length};
 ghost use Rattle.plane.specs.Paint.{bit, bit_in, mark, pack};
 

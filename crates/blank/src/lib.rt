@@ -1,4 +1,6 @@
 // The start of a composition over lent bytes: background, and a zero map.
+#![tactic(auto)]
+
 ghost use Rattle.std.specs.Prelude.{◌≡◌, true, cond, ◌*◌, ◌≤◌, ◌+◌, ◌%◌, ◌/◌, leb, length, get_or};
 ghost use Rattle.copies.specs.Copied.{block_size};
 ghost use Rattle.blank.specs.Front.{front, Alike};

@@ -1,4 +1,6 @@
 // Composes one plane of a file: select, ask, agree, paint. The plain composer paints bottom tile first, the quick one top tile first.
+#![tactic(auto)]
+
 ghost use Rattle.std.specs.Prelude.{◌≡◌, [], ◌∷◌, map, Bool, true, false, cond, not, ℕ, ◌+◌, ◌%◌, ◌≤◌, ◌<◌, ◌^◌, length, get_or, take, eqb};
 ghost use Rattle.format.specs.Scan.{scan_of};
 ghost use Rattle.format.specs.Checks.{first, row, rows_below};

@@ -1,4 +1,6 @@
 // Bytes copied from slice to slice, or within one, at the speed of memmove.
+#![tactic(auto)]
+
 ghost use Rattle.std.specs.Prelude.{◌≡◌, ◌+◌, ◌≤◌, length};
 ghost use Rattle.copies.specs.Copied.{copied, moved, block_size};
 

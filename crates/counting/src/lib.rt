@@ -1,4 +1,6 @@
 // Marks the tiles that a question selects and those of them that share a pixel with its window, and counts both.
+#![tactic(auto)]
+
 ghost use Rattle.std.specs.Prelude.{◌≡◌, ◌+◌, ◌≤◌, ◌<◌, ◌^◌, leb, length};
 ghost use Rattle.format.specs.Directory.{tile_count};
 ghost use Rattle.format.specs.Rules.{AcceptedFile};

@@ -1,4 +1,6 @@
 // The covered count of a coverage map. Each function takes the number n of bits: no sum is over n, so that it fits.
+#![tactic(auto)]
+
 ghost use Rattle.std.specs.Prelude.{◌≡◌, ◌*◌, ◌/◌, ◌≤◌, length};
 ghost use Rattle.plane.specs.Paint.{ones};
 

@@ -2,6 +2,8 @@
 // there is none; the listing says it in its text. A single number behind an out-pointer is an answer: it is written always, and is 0
 // where a refused call has nothing for it. What is lent as an array or a buffer stays as it was where the call is refused, but for the
 // listing's 192 bytes, which are its answer. No function that is exported has a `requires`.
+#![tactic(auto)]
+
 pub mod chosen;
 pub mod figures;
 pub mod planes;

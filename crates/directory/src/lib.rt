@@ -1,5 +1,7 @@
 // Judges the sub-block directory: its own refusal 10, and each entry with its sub-block in order. Of a sub-block, the entry lies in the slice d and the
 // sub-block in the slice s; which file of a scan that is, the function that judges the entry's body says.
+#![tactic(auto)]
+
 ghost use Rattle.std.specs.Prelude.{◌≡◌, ◌+◌, ◌<◌, ◌≤◌, ◌^◌, length};
 ghost use Rattle.format.specs.Scan.{scan_of};
 ghost use Rattle.format.specs.Checks.{first, rows_below};

@@ -1,4 +1,6 @@
 // Judges and reads an entry of the sub-block directory and its dimensions. The callers have shown that what is read lies in the slice.
+#![tactic(auto)]
+
 ghost use Rattle.std.specs.Prelude.{◌≡◌, ◌+◌, ◌*◌, ◌<◌, ◌≤◌, ◌^◌, false, length};
 ghost use Rattle.format.specs.Bytes.{any_below, biased};
 ghost use Rattle.format.specs.Entry.{pixel_type, file_position, entry_part, compression, pyramid_byte, dimension_count, dimension_place, next_entry};

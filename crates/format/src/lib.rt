@@ -1,4 +1,5 @@
 // The types of a CZI file's rules and of what is read from one. No function: the definitions are in specs/.
+#![tactic(auto)]
 
 // What the rules say of a file or a part of it: accepted, or refused by that number of the refusal table at that byte.
 #[derive(Drop)]

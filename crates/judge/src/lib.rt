@@ -1,4 +1,6 @@
 // Judges a whole file: the refusals 1 to 18 in the paper's order.
+#![tactic(auto)]
+
 ghost use Rattle.std.specs.Prelude.{◌≡◌, ◌++◌, ◌+◌, ◌≤◌, length};
 ghost use Rattle.format.specs.Scan.{scan_of};
 ghost use Rattle.format.specs.Checks.{first};

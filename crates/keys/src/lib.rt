@@ -1,4 +1,6 @@
 // Keys in rising order at the start of a lent table.
+#![tactic(auto)]
+
 ghost use Rattle.std.specs.Prelude.{◌≡◌, ◌<◌, length, take};
 ghost use Rattle.keys.specs.Keys.{Rising, Inserted};
 

@@ -1,4 +1,6 @@
 // Lists the file on standard input, under release 1.2. The buffer is longer than the longest file that is listed, so that a longer one is seen.
+#![tactic(auto)]
+
 use format::Release;
 use libc::{STDIN_FILENO, STDOUT_FILENO};
 

@@ -1,4 +1,6 @@
 // Lists a file: the figures of an accepted one, the refusal of any other, as a summary and as text.
+#![tactic(auto)]
+
 ghost use Rattle.std.specs.Prelude.{◌≡◌, false, [], ◌∷◌, ◌+◌, ◌^◌, ◌≤◌, ◌<◌, min, max, length};
 ghost use Rattle.format.specs.Scan.{scan_of};
 ghost use Rattle.format.specs.Bytes.{signed32, biased};

@@ -1,5 +1,7 @@
 // The markup of a sub-block's metadata, read in one pass: stretches of bytes, items, and whether they declare a chunk container.
 // A place is a file offset; end is the one behind the metadata. Bytes stand by their numbers, as in format/specs/Markup.
+#![tactic(auto)]
+
 pub mod items;
 pub mod section;
 pub mod stretches;

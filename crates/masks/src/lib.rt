@@ -1,5 +1,7 @@
 // The chunks in a sub-block's attachment and their refusals, and the valid-pixel mask.
 // A chunk is given by the file offset c of its header; end is the file offset behind the attachment.
+#![tactic(auto)]
+
 ghost use Rattle.std.specs.Prelude.{◌≡◌, Bool, true, false, ◌+◌, ◌-◌, ◌<◌, ◌≤◌, ◌^◌, length};
 ghost use Rattle.format.specs.Checks.{first};
 ghost use Rattle.format.specs.Masks.{chunk_size, chunk_bad, is_mask, mask_width, mask_height, mask_stride, mask_bad, mask_refused, chunk_rows, chunks_rows, mask_shape, chunk_at, mask_from, mask_valid};

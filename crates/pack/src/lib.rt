@@ -1,4 +1,6 @@
 // Puts what segments are made of into a lent buffer: headers, fields, parts of a file, zero bytes. Callers have shown that it has room.
+#![tactic(auto)]
+
 ghost use Rattle.std.specs.Prelude.{◌≡◌, ◌+◌, ◌-◌, ◌≤◌, ◌^◌, length};
 ghost use Rattle.format.specs.Bytes.{part_of};
 ghost use Rattle.pack.specs.Pack.{long, zeros, allocated, segment_size, header};

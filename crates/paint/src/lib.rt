@@ -1,4 +1,6 @@
 // One row's part of a turn: by runs of the mask's bits within runs of map bits, and where runs are short, by the pixel.
+#![tactic(auto)]
+
 ghost use Rattle.std.specs.Prelude.{◌≡◌, true, ◌+◌, ◌*◌, ◌<◌, ◌≤◌, ◌^◌, length};
 ghost use Rattle.paint.specs.RowPainting.{RowRoom, RowPainted, SpanRoom, SpanBytes, SpanPainted, SpanGiven, Stepped, Open, valid_at, row_gives};
 

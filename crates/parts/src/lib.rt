@@ -1,4 +1,6 @@
 // What a user is handed out of a file of any bytes: records and parts of it by number. Each question judges the whole file first, under a release.
+#![tactic(auto)]
+
 ghost use Rattle.std.specs.Prelude.{◌≡◌, ◌<◌};
 ghost use Rattle.format.specs.Scan.{scan_of};
 ghost use Rattle.format.specs.File.{metadata_position, attachment_directory_position};

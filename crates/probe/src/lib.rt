@@ -1,4 +1,6 @@
 // For measurement alone: the equal ranges of `fields`, lent to C so that host/bench can time them. No part of the product.
+#![tactic(auto)]
+
 ghost use Rattle.probe.specs.Equal.{Tells};
 
 // Whether the two slices hold the same bytes.

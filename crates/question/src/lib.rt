@@ -1,4 +1,5 @@
 // The types of a question and of a composer's answer. No function: the definitions are in specs/.
+#![tactic(auto)]
 
 // Whether masks count: not chosen, on, off.
 #[derive(Drop)]

@@ -1,4 +1,6 @@
 // A quote: composes a plane by settings, and writes its covered count and area on a sheet.
+#![tactic(auto)]
+
 ghost use Rattle.std.specs.Prelude.{◌≡◌, ◌+◌, ◌≤◌, ◌<◌, length};
 ghost use Rattle.plane.specs.Turns.{quick};
 ghost use Rattle.question.specs.Call.{covered_in};

@@ -1,4 +1,6 @@
 // A new file from an accepted one, without dead segments and slack, its spare bytes zero, put into a lent buffer.
+#![tactic(auto)]
+
 ghost use Rattle.std.specs.Prelude.{◌≡◌, length};
 ghost use Rattle.format.specs.Scan.{scan_of};
 ghost use Rattle.repacked.specs.NewFile.{repacked};

@@ -1,4 +1,6 @@
 // Where a run of equal bits ends, in a bit string with the high bit first: the coverage map, a mask's line.
+#![tactic(auto)]
+
 ghost use Rattle.std.specs.Prelude.{◌≡◌, true, ℕ, ◌*◌, ◌<◌, ◌≤◌, eqb, length, get_or};
 ghost use Rattle.plane.specs.Paint.{bit, bit_in};
 ghost use Rattle.runs.specs.Run.{Run, full, full_word, differing};

@@ -1,4 +1,6 @@
 // Judges the segments of a CZI file held in a lent slice, refusals 1 to 5, and fills a table with the positions of the walked ones.
+#![tactic(auto)]
+
 ghost use Rattle.std.specs.Prelude.{◌≡◌, ◌+◌, ◌≤◌, ◌%◌, length, take};
 ghost use Rattle.format.specs.Bytes.{same_at};
 ghost use Rattle.format.specs.Names.{name_file, name_directory, name_sub_block, name_metadata, name_attachment, name_attachment_directory, name_deleted};

@@ -1,4 +1,6 @@
 // Selects the entries whose tiles a question asks for by its starts, and the layer of each.
+#![tactic(auto)]
+
 ghost use Rattle.std.specs.Prelude.{◌≡◌, ◌≤◌, false, cond, length};
 ghost use Rattle.format.specs.Entry.{next_entry, dimensions_bad};
 ghost use Rattle.format.specs.Rules.{AcceptedFile};

@@ -1,4 +1,6 @@
 // The settings of a quote, read from a text of a few lines: refusals 34 and 35.
+#![tactic(auto)]
+
 ghost use Rattle.std.specs.Prelude.{◌≡◌, true, false, [], ◌∷◌, ◌+◌, ◌-◌, ◌*◌, ◌^◌, ◌≤◌, ◌<◌, length, drop};
 ghost use Rattle.format.specs.Markup.{every};
 ghost use Rattle.format.specs.Container.{same_bytes};

@@ -1,4 +1,6 @@
 // Judges a sub-block against its directory entry and reads the tile record. The entry lies in the slice d, the sub-block in the slice s.
+#![tactic(auto)]
+
 ghost use Rattle.std.specs.Prelude.{◌≡◌, ◌+◌, ◌<◌, ◌≤◌, ◌^◌, length, eqb};
 ghost use Rattle.format.specs.Checks.{first};
 ghost use Rattle.format.specs.Entry.{dimension_count, next_entry, layer_count};

@@ -1,4 +1,6 @@
 // Lines of plain ASCII text, answered by value: an empty text, and each thing that is put after one.
+#![tactic(auto)]
+
 ghost use Rattle.std.specs.Prelude.{◌≡◌, [], ◌∷◌, ◌+◌, ◌^◌, ◌≤◌, ◌<◌, length};
 ghost use Rattle.text.specs.Text.{digits, decimal, signed_decimal, line, text_of, Clean, Appended};
 

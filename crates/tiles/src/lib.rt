@@ -1,5 +1,7 @@
 // The tile of an entry as a composer sees it: its rank, its rectangle, and one turn of it.
 // The entry stands at e of the slice d, its sub-block at q of the slice s.
+#![tactic(auto)]
+
 ghost use Rattle.std.specs.Prelude.{◌≡◌, ◌+◌, ◌<◌, ◌^◌};
 ghost use Rattle.format.specs.Entry.{pixel_type, pixel_bytes};
 ghost use Rattle.subblocks.specs.Judged.{Listed};

@@ -1,4 +1,6 @@
 // A tile's turn: the rows of the tile that meet the window, each painted into its own stretch of the target.
+#![tactic(auto)]
+
 ghost use Rattle.std.specs.Prelude.{◌≡◌, ◌+◌, ◌*◌, ◌<◌, min, max, ◌^◌};
 ghost use Rattle.turns.specs.Turned.{Clipped, LineOf, StretchRoom, StretchPainted, TurnRoom, Turned};
 
