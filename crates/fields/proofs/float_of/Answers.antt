@@ -2,12 +2,10 @@
 use Prim.Native.Nat.{◌%◌}
 use mathlib.Core.Path.{◌≡◌, refl, sym, ◌∙◌, subst}
 use mathlib.Core.Bool.{Bool, true, false}
-use borrow.Author.Rules.{rules}
 use borrow.Author.Tests.{lt-ltb, le-ltb}
 use lib.Ieee.{Float, nan, inf, fin, binary32, is_nan, of_bits, div, of_fields, odd}
 use lib.Ieee.Bits.{nan_bits_above, nan_bits_is}
-use Rattle.fields.proofs.float_of.Statement.{statement}
-use Rattle.fields.proofs.float_of.Tie as tie
+use Rattle.fields.proofs.float_of.Goals as goal
 
 abbrev tag : Bool → Type 0
 tag true = ⊥
@@ -22,14 +20,11 @@ only_nan nan h = refl
 only_nan (inf s) h = absurd (clash h)
 only_nan (fin s m e) h = absurd (clash h)
 
-returns : tie.Need-returns
+pub returns-then-low-gt2139095040 : goal.returns-then-low-gt2139095040
 unfolding div of_bits of_fields odd
-returns c =
-    let b = c.before.args.bits in
-    only_nan (of_bits binary32 b) (sym (nan_bits_is binary32 b) ∙ nan_bits_above binary32 b ∙ lt-ltb _ _ c.if1.true)
+returns-then-low-gt2139095040 c =
+    let b = c.args.bits in
+    only_nan (of_bits binary32 b) (sym (nan_bits_is binary32 b) ∙ nan_bits_above binary32 b ∙ lt-ltb _ _ c.if-low-gt2139095040.true)
 
-float-from-bits-result : tie.Need-float-from-bits-result
-float-from-bits-result c = rw (nan_bits_above binary32 c.before.args.bits, le-ltb 2139095040 (c.before.args.bits % 2147483648) c.if1.false) tt
-
-pub float-of-spec : {M : Type 1} → statement M
-float-of-spec = tie.close (tie.spec returns float-from-bits-result (λ c. search rules))
+pub float_from_bits-result : goal.float_from_bits-result
+float_from_bits-result c = rw (nan_bits_above binary32 c.args.bits, le-ltb 2139095040 (c.args.bits % 2147483648) c.if-low-gt2139095040.false) tt

@@ -2,12 +2,8 @@
 use mathlib.Core.Path.{refl}
 use native.Mathlib.Omega.{arith}
 use Rattle.text.specs.Text.{text_of}
-use Rattle.text.proofs.empty.Statement.{statement}
-use Rattle.text.proofs.empty.Tie as tie
+use Rattle.text.proofs.empty.Goals as goal
 
-returns : tie.Need-returns
+pub returns : goal.returns
 unfolding text_of
 returns c = (record { within = omega arith; whole = refl; rest = refl }, refl)
-
-pub empty-spec : {M : Type 1} → statement M
-empty-spec = tie.close (tie.spec returns)

@@ -1,0 +1,16 @@
+-- `fields::copy_out` meets its contract.
+use Prim.Native.Nat.{◌-◌}
+use Rattle.fields.proofs.Copying.{copying-start, copying-next, copying-end}
+use Rattle.fields.proofs.copy_out.Goals as goal
+
+pub loop-i-init : goal.loop-i-init
+loop-i-init c = search copying-start
+
+pub loop-i-preserved : goal.loop-i-preserved
+loop-i-preserved c = search copying-next
+
+pub shape_of-out : goal.shape_of-out
+shape_of-out c = c.loop-i.invariant.size
+
+pub returns : goal.returns
+returns c = search copying-end
