@@ -1,5 +1,4 @@
 -- `markup::items::tag_end` meets its contract.
-use Prim.Native.Nat.{◌-◌}
 use native.Mathlib.Omega.{arith}
 use Rattle.markup.proofs.Tagging.{tagging-start, tagging-next, tag-ended, tag-broken, tag-cut}
 use Rattle.markup.proofs.items.tag_end.Goals as goal

@@ -1,8 +1,6 @@
 -- `markup::section::in_section` meets its contract.
-use Prim.Native.Nat.{◌<◌}
-use native.Mathlib.Omega.{arith}
 use Rattle.format.specs.Names.{tag_metadata, tag_schema, tag_format}
-use Rattle.markup.proofs.Opening.{lie-third, section-other, section-first, section-second, section-third}
+use Rattle.markup.proofs.Opening.{section-other, section-first, section-second, section-third}
 use Rattle.markup.proofs.section.in_section.Goals as goal
 
 pub returns-then-depth-ne3 : goal.returns-then-depth-ne3

@@ -1,6 +1,4 @@
 -- `markup::section::is_container` meets its contract.
-use Prim.Native.Nat.{◌-◌}
-use borrow.Author.Rules.{rules}
 use native.Mathlib.Omega.{arith}
 use Rattle.markup.proofs.Walking.{walking_start, told, broken, too_many, lie-start, walking-opened, none_open, names-lie, other_name}
 use Rattle.markup.proofs.Walking.{walking-closed, walking-empty, walking-text, text-lies, walking-skipped, still_open, all_closed}

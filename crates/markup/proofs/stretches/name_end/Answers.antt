@@ -1,5 +1,4 @@
 -- `markup::stretches::name_end` meets its contract.
-use Prim.Native.Nat.{◌-◌}
 use Rattle.format.specs.Markup.{name_byte}
 use Rattle.markup.proofs.Classes.{of-class, of_other}
 use Rattle.markup.proofs.Stretching.{passing-start, passing-next, passed_here, passed-all}

@@ -1,5 +1,4 @@
 -- `markup::stretches::next_byte` meets its contract.
-use Prim.Native.Nat.{◌-◌}
 use Rattle.markup.proofs.Classes.{other_goes, other-stops}
 use Rattle.markup.proofs.Stretching.{passing-start, passing-next, passed_here, passed-all}
 use Rattle.markup.proofs.stretches.next_byte.Goals as goal

@@ -1,5 +1,4 @@
 -- `markup::stretches::text_end` meets its contract.
-use Prim.Native.Nat.{◌-◌}
 use Rattle.markup.proofs.Classes.{text-goes, text-stops}
 use Rattle.markup.proofs.Stretching.{passing-start, passing-next, passed_here, passed-all}
 use Rattle.markup.proofs.stretches.text_end.Goals as goal
