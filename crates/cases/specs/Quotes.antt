@@ -271,8 +271,8 @@ all_said = (refl, (refl, tt))
 -- ---- whole quotes of P8's tile, five pixels wide with a mask of three, and of no file
 
 -- a background of one pixel
-abbrev pub ground : ℕ → List ℕ
-ground type = cond (eqb type 1) (1 ∷ 1 ∷ []) (1 ∷ [])
+abbrev pub background_for : ℕ → List ℕ
+background_for type = cond (eqb type 1) (1 ∷ 1 ∷ []) (1 ∷ [])
 
 abbrev pub asked : List ℕ → List ℕ → ℕ → ℕ → ℕ → QuoteAsked
 asked file settings type left width = record {
@@ -280,7 +280,7 @@ asked file settings type left width = record {
   starts = [];
   any_scene = false;
   request = record { pixel_type = type; left = pos left; top = pos 0; width = width; height = 1 };
-  background = ground type;
+  background = background_for type;
   settings = settings;
 }
 

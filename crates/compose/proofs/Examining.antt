@@ -162,7 +162,7 @@ module _ (a : Asked) (t m : List ℕ) {table : List ℕ} {w : Rect} (v : Verdict
         edges = edges_fit (asked_window a) e ok.window;
         room = rw e (room a t m accepted);
         small = rw e (mul-le-mul p.low p.narrow);
-        ground = (pixel-ok a.request.pixel_type a.background ok.pixel).1;
+        background_fits = (pixel-ok a.request.pixel_type a.background ok.pixel).1;
         typed = λ k h c. typed k (chosen_in table k) (meets (rectangle bs (entry_place bs k)) w) refl refl c (ok.agree k h) (s.as_asked k h);
       }
     where

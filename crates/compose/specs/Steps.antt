@@ -132,7 +132,7 @@ pub record PlaneRoom (t m : List ℕ) (sc : Scan) (starts : List ℤ) (table bac
   pub edges : Edges w
   pub room : Room w (pixel_bytes pixel) t m
   pub small : area w ≤ 4294967296
-  pub ground : length background ≡ pixel_bytes pixel
+  pub background_fits : length background ≡ pixel_bytes pixel
   pub typed : (k : ℕ) → k < tile_count sc.file → takes_turn sc.file table w k ≡ true → pixel_type sc.file (entry_place sc.file k) ≡ pixel
 
 -- the start: background, a zero map and a count of 0

@@ -1,20 +1,20 @@
 -- What follows for an entry that is not refused: its mark and number of dimensions, its X and Y, and the bounds of a dimension. Assumes nothing.
 use Prim.Native.Nat.{ℕ, suc, ◌+◌, ◌-◌, ◌^◌, ◌≤◌, ◌<◌}
 use mathlib.Core.Path.{◌≡◌, refl, sym, ◌∙◌}
-use mathlib.Core.List.{List, [], ◌∷◌}
-use mathlib.Core.Bool.{Bool, true, false, cond, not, true≢false}
+use mathlib.Core.List.{List}
+use mathlib.Core.Bool.{Bool, true, false, cond, true≢false}
 use native.Mathlib.Omega.{arith}
 use lib.ListN.{length}
-use lib.Dec.{eqb, leb, ltb}
+use lib.Dec.{eqb, ltb}
 use lib.IntN.{pos, negsuc, ◌+ℤ◌, ◌-ℤ◌}
 use lib.Signed.{mag}
 use borrow.Author.Tests.{lt-ltb, le-ltb, eq-eqb, ne_eqb, ltb-true, ltb-false, leb-false, eqb-true, eqb-false, not-false}
-use Rattle.format.specs.Bytes.{same_at, any_of, any_below, least_below, signed32, biased}
+use Rattle.format.specs.Bytes.{same_at, any_below, least_below, signed32, biased}
 use Rattle.format.specs.Names.{mark_tile}
 use Rattle.format.specs.Entry.{dimension_count, letter, start, size, stored, stored_field, dimension_place, next_entry, has_letter, letter_index, letter_place}
 use Rattle.format.specs.Entry.{head_bad, letter_bad, too_far, is_plane, most_size, plane_size_bad, other_size_bad, size_bad, dimension_bad, repeats, closes_plane}
 use Rattle.format.specs.Entry.{dimensions_bad, pixel_bytes}
-use Rattle.format.specs.Entry.{has_layers, layers_bad, is_layered, layers_index, layers_place, layer_count}
+use Rattle.format.specs.Entry.{has_layers, is_layered, layers_index, layers_place, layer_count}
 use Rattle.format.proofs.Below.{by_bool, none, any_found, any_none, least-is, least-none}
 
 -- ---- the fixed part

@@ -1,16 +1,16 @@
 -- The dimension with layers of an entry that is not refused: its letter, its size, and that it is the dimension of its letter. Assumes nothing.
-use Prim.Native.Nat.{ℕ, ◌+◌, ◌≤◌, ◌<◌}
-use mathlib.Core.Path.{◌≡◌, refl, sym, ◌∙◌}
-use mathlib.Core.List.{List, [], ◌∷◌}
-use mathlib.Core.Bool.{Bool, true, false, cond, true≢false}
+use Prim.Native.Nat.{ℕ, ◌≤◌, ◌<◌}
+use mathlib.Core.Path.{◌≡◌, refl}
+use mathlib.Core.List.{List}
+use mathlib.Core.Bool.{true, false}
 use native.Mathlib.Omega.{arith}
 use lib.Dec.{eqb}
-use borrow.Author.Tests.{eq-eqb, ne_eqb, eqb-false}
-use Rattle.format.specs.Bytes.{any_of, any_below, least_below}
+use borrow.Author.Tests.{eq-eqb, eqb-false}
+use Rattle.format.specs.Bytes.{any_below}
 use Rattle.format.specs.Entry.{dimension_count, letter, size, stored, dimension_place, has_letter, letter_index, letter_place}
-use Rattle.format.specs.Entry.{is_plane, most_size, dimension_bad, repeats, has_layers, layers_bad, dimensions_bad, is_layered, layers_index, layers_place}
+use Rattle.format.specs.Entry.{is_plane, most_size, dimension_bad, repeats, dimensions_bad, is_layered, layers_index, layers_place}
 use Rattle.format.proofs.Below.{by_bool, none, any_found, any_none, least-found}
-use Rattle.entries.proofs.EntryLaws.{Sized, Stacked, layers-placed, dimension-ok, other-ok, dimensions-ok}
+use Rattle.entries.proofs.EntryLaws.{Sized, Stacked, layers-placed, dimension-ok, other-ok}
 
 -- a letter that is not X or Y
 pub not-plane : (x : ℕ) → is_plane x ≡ false → (x ≡ 88 → ⊥) × (x ≡ 89 → ⊥)

@@ -8,4 +8,4 @@ use mir.Val.{of_z, to_z}
 use mir.Facts.{to_z-of_z}
 
 pub read_back : (z : ℤ) → mag z < 2 ^ 31 → to_z w32 (of_z w32 z) ≡ z
-read_back z h = to_z-of_z (record { sfits = h })
+read_back z h = to_z-of_z {w = w32} (record { sfits = h })

@@ -1,8 +1,7 @@
 -- Rules for `search`: whether a byte is of a class, from the tests that the code took.
 use Prim.Native.Nat.{ℕ}
-use mathlib.Core.Path.{◌≡◌, refl, ap}
+use mathlib.Core.Path.{◌≡◌, ap}
 use mathlib.Core.Bool.{Bool, true, false, not}
-use lib.Dec.{eqb}
 use borrow.Author.Tests.{not-true, not-false}
 use Rattle.format.specs.Markup.{text_byte}
 use Rattle.markup.specs.Stretches.{other_than}

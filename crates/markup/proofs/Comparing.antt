@@ -2,12 +2,11 @@
 use Prim.Native.Nat.{ℕ, zero, suc, ◌+◌, ◌-◌, ◌≤◌, ◌<◌}
 use mathlib.Core.Path.{◌≡◌, refl, sym, ◌∙◌, ap, fun_ext}
 use mathlib.Core.List.{List, [], ◌∷◌}
-use mathlib.Core.Bool.{Bool, true, false, ◌&&◌, and_assoc, and-true, and-false}
+use mathlib.Core.Bool.{Bool, false, ◌&&◌, and_assoc, and-true, and-false}
 use native.Mathlib.Nat.{add-zero, not-suc-le-zero, le_of_suc-le-suc}
-use native.Mathlib.Numerals.{add-one}
 use native.Mathlib.Omega.{arith}
-use lib.ListN.{length, get_or, take, drop, length-drop}
-use lib.Seq.{get_or-take, get_or-drop, length-take-le}
+use lib.ListN.{length, get_or, drop}
+use lib.Seq.{get_or-take, get_or-drop}
 use lib.Dec.{eqb}
 use Rattle.format.specs.Bytes.{all_below, same_at, same_range, part_of}
 use Rattle.format.specs.Markup.{begins}
@@ -15,7 +14,7 @@ use Rattle.format.specs.Container.{same_bytes}
 use Rattle.format.proofs.Below.{all_alike}
 use Rattle.format.proofs.Parts.{part_length}
 use Rattle.markup.specs.Stretches.{stretch}
-use Rattle.markup.proofs.Stretching.{stretch-none, stretch-one, stretch-length}
+use Rattle.markup.proofs.Stretching.{stretch-one, stretch-length}
 
 -- ---- a string at a place, byte by byte
 

@@ -4,14 +4,13 @@ use mathlib.Core.Path.{◌≡◌, refl, sym, ◌∙◌, ap}
 use mathlib.Core.List.{List, [], ◌∷◌}
 use mathlib.Core.Bool.{Bool, true, false}
 use mathlib.Core.Logic.{⊎_elim}
-use mathlib.Core.Option.{none, some, Option-elim}
+use mathlib.Core.Option.{none, some}
 use native.Mathlib.Nat.{eq-or-lt_of_le, eq-zero-or-pos}
 use native.Mathlib.Omega.{arith}
-use borrow.Author.Tests.{eq-eqb, ne_eqb}
-use lib.ListN.{length, get_or, drop}
-use lib.Dec.{eqb}
+use borrow.Author.Tests.{ne_eqb}
+use lib.ListN.{length, get_or}
 use Rattle.format.specs.Bytes.{any_of}
-use Rattle.format.specs.Markup.{text, comment, instruction, charData, opener, closer, white, name_byte, text_byte, begins_name, begins, front, behind}
+use Rattle.format.specs.Markup.{text, opener, closer, white, name_byte, text_byte, begins_name, begins, front, behind}
 use Rattle.format.specs.Markup.{tag_at, end_tag_at, skip_at, mark_at, item_at, Found}
 use Rattle.markup.specs.Stretches.{stretch, Passed}
 use Rattle.markup.specs.Tokens.{Stands, skipped_behind, declaration_at}

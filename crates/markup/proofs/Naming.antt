@@ -1,15 +1,12 @@
 -- Laws of tags by their names: a start tag, an empty-element tag and an end tag from their first byte on.
-use Prim.Native.Nat.{ℕ, ◌+◌, ◌-◌, ◌≤◌, ◌<◌}
-use mathlib.Core.Path.{◌≡◌, refl, sym, ◌∙◌}
-use mathlib.Core.List.{List, [], ◌∷◌}
+use Prim.Native.Nat.{ℕ, ◌+◌, ◌-◌, ◌≤◌}
+use mathlib.Core.Path.{◌≡◌, ◌∙◌}
+use mathlib.Core.List.{List, ◌∷◌}
 use mathlib.Core.Bool.{Bool, true, false, not}
-use mathlib.Core.Option.{none, some, Option-elim}
 use native.Mathlib.Omega.{arith}
 use borrow.Author.Tests.{eq-eqb, ne_eqb, not-true, not-false}
 use lib.ListN.{length, get_or}
-use lib.Dec.{eqb}
-use Rattle.format.specs.Bytes.{part_of}
-use Rattle.format.specs.Markup.{close, white, name_byte, begins_name, front, behind, tag_at, end_tag_at, closed}
+use Rattle.format.specs.Markup.{white, name_byte, begins_name, tag_at, end_tag_at, closed}
 use Rattle.markup.specs.Stretches.{stretch, Passed}
 use Rattle.markup.specs.Tokens.{Stands, tag_behind}
 use Rattle.markup.specs.declared.Token.{Token}

@@ -1,6 +1,6 @@
 -- What a token says: the item that stands at a place, and what stands behind it.
-use Rattle.std.specs.Prelude.{ℕ, ◌+◌, ◌≤◌, ◌<◌, ◌≡◌, List, [], ◌∷◌, Bool, cond, drop, eqb}
-use Rattle.std.proofs.Math.Option.{Option, none, some, Option-elim}
+use Rattle.std.specs.Prelude.{ℕ, ◌+◌, ◌≤◌, ◌<◌, ◌≡◌, List, [], ◌∷◌, cond, drop, eqb}
+use Rattle.std.proofs.Math.Option.{none, some, Option-elim}
 use Rattle.format.specs.Bytes.{part_of}
 use Rattle.format.specs.Markup.{start, close, empty, text, skipped, comment, charData, closer, begins, behind_first, behind_tag, Found}
 use Rattle.markup.specs.Stretches.{stretch}

@@ -92,7 +92,7 @@ module _ (w : Rect) (b : ℕ) (bg : List ℕ) (ts : List Tile) (t m : List ℕ) 
     target-length = kept.target-length ∙ paint-length (area w) b _ _ t;
     map-length = kept.map-length ∙ clear-length (area w) m;
     given = λ x y hx hy. simp (digits_mod y hx, digits_div y hx) at (at-given k (y * w.width + x) (digits_lt hy hx));
-    ground = λ x y hx hy. simp (digits_mod y hx, digits_div y hx) at (at-ground k (y * w.width + x) (digits_lt hy hx));
+    uncovered = λ x y hx hy. simp (digits_mod y hx, digits_div y hx) at (at-ground k (y * w.width + x) (digits_lt hy hx));
     unused = λ p h l. kept.unused p h (rw (clear-length (area w) m) (omega (arith, r.map))) ∙ start-bit w b bg t m r p l;
     byte = run-bytes w b k (order k ts) (start w b bg t m) (start-room w b bg t m r) (start-bytes w b bg t m r);
     target_past = λ i h. kept.target_past i h ∙ paint-past (area w) b _ _ t i h;
@@ -114,8 +114,8 @@ module _ (b : ℕ) (bg : List ℕ) (ts : List Tile) where
       let g' = a'.given x' y' hx' hy' o.0 (rw (eu, ev) at o.1) in
       (λ j h. g.0 j h ∙ rw (eu, ev) (sym (g'.0 j h)), g.1 ∙ sym g'.1))
       (λ n.
-      let g = a.ground x y hx hy n in
-      let g' = a'.ground x' y' hx' hy' (rw (eu, ev) at n) in
+      let g = a.uncovered x y hx hy n in
+      let g' = a'.uncovered x' y' hx' hy' (rw (eu, ev) at n) in
       (λ j h. g.0 j h ∙ sym (g'.0 j h), g.1 ∙ sym g'.1))
       (top-or-none (w.left + x) (w.top + y) ts)
 
@@ -159,7 +159,7 @@ module _ (b : ℕ) (bg : List ℕ) (ts : List Tile) where
       go : (x y : ℕ) → x < w.width → y < w.height → bit m (y * w.width + x) ≡ covered ts (w.left + x) (w.top + y)
       go x y hx hy =
           ⊎_elim (λ o. (a.given x y hx hy o.0 o.1).1 ∙ sym (covered-mem (w.left + x) (w.top + y) ts o.1.chosen o.1.gives))
-          (λ n. (a.ground x y hx hy n).1 ∙ sym (covered_none (w.left + x) (w.top + y) ts n))
+          (λ n. (a.uncovered x y hx hy n).1 ∙ sym (covered_none (w.left + x) (w.top + y) ts n))
           (top-or-none (w.left + x) (w.top + y) ts)
 
 -- a count of plane pixels over a window is the sum of those over its two halves

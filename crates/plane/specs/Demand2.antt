@@ -31,7 +31,7 @@ pub record Plane (w : Rect) (b : ℕ) (bg : List ℕ) (ts : List Tile) (t₀ m�
   pub given : (x y : ℕ) → x < w.width → y < w.height → (s : Tile) → Top ts (w.left + x) (w.top + y) s
       → ((j : ℕ) → j < b → get_or t ((y * w.width + x) * b + j) 0 ≡ s.byte (w.left + x) (w.top + y) j) × (bit m (y * w.width + x) ≡ true)
   -- a pixel that no tile gives: the background, and its map bit is zero
-  pub ground : (x y : ℕ) → x < w.width → y < w.height → None ts (w.left + x) (w.top + y)
+  pub uncovered : (x y : ℕ) → x < w.width → y < w.height → None ts (w.left + x) (w.top + y)
       → ((j : ℕ) → j < b → get_or t ((y * w.width + x) * b + j) 0 ≡ get_or bg j 0) × (bit m (y * w.width + x) ≡ false)
   -- unused bits of the map's last byte are zero
   pub unused : (p : ℕ) → area w ≤ p → p < 8 * ((area w + 7) / 8) → bit m p ≡ false

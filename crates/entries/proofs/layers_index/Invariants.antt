@@ -1,0 +1,10 @@
+use Prim.Native.Nat.{◌-◌}
+use Rattle.format.specs.Entry.{dimension_count, has_layers}
+use Rattle.entries.proofs.Passed.{Passed}
+use Rattle.entries.proofs.layers_index.Given as goal
+
+abbrev pub invariant-loop-k : goal.invariant-loop-k
+invariant-loop-k l = Passed (dimension_count l.s l.e) (has_layers l.s l.e) l.k
+
+abbrev pub decreases-loop-k : goal.decreases-loop-k
+decreases-loop-k l = l.n - l.k

@@ -1,0 +1,29 @@
+-- `entries::some_layers_bad` meets its contract.
+use native.Mathlib.Omega.{arith}
+use Rattle.format.specs.Entry.{next_entry}
+use Rattle.entries.proofs.Passed.{passed_start, passed-next, passed-found, passed-end}
+use Rattle.entries.proofs.some_layers_bad.Goals as goal
+
+pub dimension_count-n-requires : goal.dimension_count-n-requires
+unfolding next_entry
+dimension_count-n-requires c = omega arith
+
+pub loop-k-init : goal.loop-k-init
+unfolding next_entry
+loop-k-init c = passed_start _ _
+
+pub layers_bad-requires : goal.layers_bad-requires
+unfolding next_entry
+layers_bad-requires c = omega arith
+
+pub returns-then-layers_bad : goal.returns-then-layers_bad
+unfolding next_entry
+returns-then-layers_bad c = search passed-found
+
+pub loop-k-preserved : goal.loop-k-preserved
+unfolding next_entry
+loop-k-preserved c = search passed-next
+
+pub returns : goal.returns
+unfolding next_entry
+returns c = search passed-end

@@ -1,0 +1,10 @@
+use Prim.Native.Nat.{◌-◌}
+use Rattle.format.specs.Entry.{dimension_count, layers_bad}
+use Rattle.entries.proofs.Passed.{Passed}
+use Rattle.entries.proofs.some_layers_bad.Given as goal
+
+abbrev pub invariant-loop-k : goal.invariant-loop-k
+invariant-loop-k l = Passed (dimension_count l.s l.e) (layers_bad l.s l.e) l.k
+
+abbrev pub decreases-loop-k : goal.decreases-loop-k
+decreases-loop-k l = l.n - l.k
