@@ -2,14 +2,22 @@
 #![tactic(auto)]
 
 use format::Release;
-use libc::{STDIN_FILENO, STDOUT_FILENO};
+use std::io;
+use std::io::{Read, Write};
 
-fn main() {
+fn main(rt: HostRuntime) -> io::Result<()> {
     let mut buffer = [0u8; 65568];
-    let n = io::read_full(STDIN_FILENO, &mut buffer);
+    let mut input = rt.stdin();
+    let mut n: usize = 0;
+    while n < buffer.len() {
+        let got = input.read(&mut buffer[n..])?;
+        if got == 0 {
+            break;
+        }
+        n += got;
+    }
     let answer = listing::list(&buffer[..n], Release::R12);
     let bytes = answer.bytes;
-    let length = answer.length;
-    let k = io::count(length as isize, &bytes);
-    io::write_all(STDOUT_FILENO, &bytes[..k]);
+    let k = bytes.len().min(answer.length);
+    rt.stdout().write_all(&bytes[..k])
 }
