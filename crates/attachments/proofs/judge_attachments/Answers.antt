@@ -3,7 +3,7 @@ use Prim.Native.Nat.{◌≤◌}
 use mathlib.Core.Path.{◌≡◌}
 use Prim.Native.Nat.{ℕ}
 use mathlib.Core.List.{List}
-use mathlib.Core.Bool.{Bool, true, false}
+use mathlib.Core.Bool.{Bool, false}
 use native.Mathlib.Omega.{arith}
 use lib.ListN.{length}
 use borrow.Author.Tests.{eq-eqb, ne_eqb}
@@ -20,11 +20,6 @@ module _ (bs : List ℕ) (t p : ℕ) (i : t ≡ p) (h : (p ≡ 0 → ⊥) → Ro
   within : (r : Bool) → r ≡ attachment_directory_bad bs t → r ≡ false → attachment_entry t (attachment_entry_count bs t) ≤ length bs
   within r f e = entries-within _ _ (named-room bs t p i h n) (is_false _ _ f e)
 
--- where the second test is taken its row is given
-taken-2 : (c : goal.Then-attachment_directory_bad)
-    → attachment_directory_bad c.args.s.now c.attachment_directory_position-t.result ≡ true
-taken-2 c = search is_true
-
 pub attachment_directory_position-t-requires : goal.attachment_directory_position-t-requires
 unfolding attachment_entry
 attachment_directory_position-t-requires c = search rules
@@ -39,7 +34,7 @@ attachment_directory_bad-requires c = named-room _ _ _ c.attachment_directory_po
 
 pub returns-then-attachment_directory_bad : goal.returns-then-attachment_directory_bad
 unfolding attachments_rows attachment_directory_rows
-returns-then-attachment_directory_bad c = rw (← c.attachment_directory_position-t.ensures) (present _ _ _ (ne_eqb _ _ c.if-t-eq0.false) (rw (taken-2 c)))
+returns-then-attachment_directory_bad c = rw (← c.attachment_directory_position-t.ensures) (present _ _ _ (ne_eqb _ _ c.if-t-eq0.false) (rw (is_true _ _ c.attachment_directory_bad.ensures c.if-attachment_directory_bad.true)))
 
 pub attachment_entry_count-requires : goal.attachment_entry_count-requires
 unfolding attachment_entry
