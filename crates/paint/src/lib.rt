@@ -6,7 +6,7 @@ ghost use Rattle.paint.specs.RowPainting.{RowRoom, RowPainted, SpanRoom, SpanByt
 
 // What of a row's part of a turn does not change along the row: the number of its first pixel's map bit, the bytes of a pixel, whether the tile is
 // masked, how many columns the mask's line has, which of them is the first pixel's, and whether the turn is quick.
-#[derive(Drop)]
+#[derive(Clone, Copy)]
 pub struct Row {
     pub first: usize,
     pub bytes: usize,

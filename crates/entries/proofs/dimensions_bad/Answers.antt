@@ -1,36 +1,19 @@
 -- `entries::dimensions_bad` meets its contract.
-use borrow.Author.Rules.{rules}
 use Rattle.format.specs.Entry.{dimensions_bad}
 use Rattle.format.proofs.Flags.{flags, any_here, any-later, any-skip, any_none, is_true, is_false, not-is-true, not-is-false}
 use Rattle.entries.proofs.dimensions_bad.Goals as goal
-
-pub some_bad-requires : goal.some_bad-requires
-unfolding dimensions_bad
-some_bad-requires c = search rules
 
 pub returns-then-some_bad : goal.returns-then-some_bad
 unfolding dimensions_bad
 returns-then-some_bad c = search flags depth 8
 
-pub some_repeats-requires : goal.some_repeats-requires
-unfolding dimensions_bad
-some_repeats-requires c = search rules
-
 pub returns-then-some_repeats : goal.returns-then-some_repeats
 unfolding dimensions_bad
 returns-then-some_repeats c = search flags depth 8
 
-pub some_closes-requires : goal.some_closes-requires
-unfolding dimensions_bad
-some_closes-requires c = search rules
-
 pub returns-then-not-some_closes : goal.returns-then-not-some_closes
 unfolding dimensions_bad
 returns-then-not-some_closes c = any-later _ _ (any-later _ _ (any_here _ _ (not-is-true _ (is_false _ _ c.some_closes.ensures c.if-not-some_closes.true))))
-
-pub some_layers_bad-requires : goal.some_layers_bad-requires
-unfolding dimensions_bad
-some_layers_bad-requires c = search rules
 
 pub returns-then-some_layers_bad : goal.returns-then-some_layers_bad
 unfolding dimensions_bad
@@ -42,6 +25,6 @@ pub returns : goal.returns
 unfolding dimensions_bad
 returns c =
     any-skip _ _ _ (is_false _ _ c.some_bad.ensures c.if-some_bad.false)
-    (any-skip _ _ _ (is_false _ _ c.some_repeats.ensures c.if-some_repeats.false)
+    (any-skip _ _ _ (search is_false)
     (any-skip _ _ _ (not-is-false _ (is_true _ _ c.some_closes.ensures c.if-not-some_closes.false))
-    (any-skip _ _ _ (is_false _ _ c.some_layers_bad.ensures c.if-some_layers_bad.false) any_none)))
+    (any-skip _ _ _ (search is_false) any_none)))
