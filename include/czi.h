@@ -98,7 +98,7 @@
  * C99 or later, or C++. Linked, where ./install has put it into PREFIX, as
  *   cc yours.c $(pkg-config --cflags --libs czi) -Wl,-rpath,PREFIX/lib
  * or without -rpath where the loader finds libczi.so.3 (LD_LIBRARY_PATH, ldconfig); or, beside the sources, built by
- * `rt staticlib czi` and linked as  cc -Iinclude yours.c target/staticlib/libczi.a
+ * `host/library` and linked as  cc -Iinclude yours.c target/staticlib/libczi.a
  */
 #ifndef CZI_H
 #define CZI_H

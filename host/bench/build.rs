@@ -1,4 +1,4 @@
-//! Names libprobe.a to the linker where `rt staticlib probe` has written it; without it one line is not measured.
+//! Names libprobe.a to the linker where `host/library probe` has written it; without it one line is not measured.
 
 use std::path::PathBuf;
 

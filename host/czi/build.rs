@@ -1,5 +1,5 @@
 //! Names libczi.a to the linker: in the folder that CZI_LIB_DIR says, or where
-//! `rt staticlib czi` writes it.
+//! `host/library` writes it.
 
 use std::path::PathBuf;
 
@@ -16,7 +16,7 @@ fn main() {
     println!("cargo::rerun-if-changed={}", library.display());
     if !library.is_file() {
         let library = library.display();
-        println!("cargo::error={library} is missing: run `rt staticlib czi`, or set CZI_LIB_DIR");
+        println!("cargo::error={library} is missing: run `host/library`, or set CZI_LIB_DIR");
         return;
     }
     println!("cargo::rustc-link-search=native={}", folder.display());

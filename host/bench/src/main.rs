@@ -86,7 +86,7 @@ fn main() {
     let report = Report::new(options.rounds, !options.limits);
     println!("{}", table(&report.limits, options.markdown));
     if !probe::LINKED {
-        println!("256-byte equal range / memcmp: not measured, libprobe.a was not there (rt staticlib probe).\n");
+        println!("256-byte equal range / memcmp: not measured, libprobe.a was not there (host/library probe).\n");
     }
     if !options.limits {
         println!("{}", table(&report.others, options.markdown));
