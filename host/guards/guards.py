@@ -13,8 +13,9 @@ file in one run; the other lines say what each block is for:
 
 guard:  a name, once in its crate.
 of:     what it guards: rows of the refusal table by number, with condition, place or order; or a try in words. More, by ';'.
-at:     the function, or the file of laws, and the need, the fact that it rests on, or the law, at which it must be refused.
-why:    why that need is false then. Needed where the prover names no numbers at which it fails.
+at:     the function, or the file of laws, and the goal, the fact that it rests on, or the law, at which it must be refused. Rattle names a
+        goal by the tests on the way to it: where the guard changes such a test, the goal's name is that of the changed code.
+why:    why that goal is false then. Needed where the prover names no numbers at which it fails.
 A block may have several old:/new: pairs: two tests that change places.
 """
 
@@ -29,16 +30,23 @@ VOID = (
     "was not admitted",
     "has no field",
     "that can be named from here",
+    "is not in scope",
     "is applied to an argument",
     "was not determined",
     "unsolved",
     "is not determined",
+    "is not yet determined",
     "expected type `tie.",
     "no occurrence",
+    "`rw`: no part of",
     "explicit arguments more than",
 )
-# What omega says where it has numbers at which everything known holds and the goal does not.
-NUMBERS = "All of that holds, and"
+# What the prover says where it has numbers at which everything known holds and the goal does not.
+NUMBERS = (
+    "All of that holds, and",
+    "The hypotheses hold, and the goal fails",
+    "the facts known there allow values at which this goal is false",
+)
 
 
 class Guard:
@@ -100,21 +108,28 @@ def all_guards(only=()):
 
 
 def entries(log):
-    """The errors of a check's log: (file below proofs/ without its ending, declaration, message with the lines under it)."""
-    found = []
+    """The errors of a check's log: (function or file of laws, goal or law, message with the lines under it)."""
+    found, waiting, under = [], [], None
     for line in log.splitlines():
-        match = re.match(r"(?:\S*/)?proofs/(\S+?)\.antt:\d+:\d+: error: `([^`]+)`: (.*)", line)
-        if match:
-            found.append([match[1].removesuffix("/Proof"), match[2], match[3]])
+        if line.startswith(" "):
+            if under:
+                under[2] += "\n" + line
             continue
-        # a function that needs no file: the need is named, and what search says of it stands before
-        match = re.match(r"fn (\S+): no proof: .*`search` does not close (.*)", line)
-        if match:
-            for need in re.findall(r"`([^`]+)`", match[2]):
-                found.append([match[1].split("::")[-1], need, "`search` does not close it"])
-            continue
-        if found and (line.startswith(" ") or NUMBERS in line):
-            found[-1][2] += "\n" + line
+        under = None
+        # an answer, an invariant or a law that was refused
+        if match := re.match(r"(?:\S*/)?proofs/(\S+?)\.antt:\d+:\d+: error: `([^`]+)`: (.*)", line):
+            under = [re.sub(r"/(Answers|Invariants|Proof)$", "", match[1]), match[2], match[3]]
+            found.append(under)
+        # a goal that no answer was written for, and that `search` did not prove: the line of its function follows
+        elif match := re.match(r"note: (?:\./)?src/\S+:\d+:\d+: it is not proved that .*\((`[^()]+`)\)(.*)", line):
+            waiting += [[goal, f"`search` did not prove it{match[2]}"] for goal in re.findall(r"`([^`]+)`", match[1])]
+        elif match := re.match(r"fn (\S+): (.*)", line):
+            function = match[1].split("::")[-1]
+            if match[2].startswith("no"):
+                found += [[function, *goal] for goal in waiting]
+                for goals in re.findall(r"`search` did not prove ([^;]*)", match[2]):
+                    found += [[function, goal, "`search` did not prove it"] for goal in re.findall(r"`([^`]+)`", goals)]
+            waiting = []
     return found
 
 
@@ -129,9 +144,9 @@ def refusal(guard, log):
     found = messages(guard, log)
     if not found:
         return None, f"no error at {guard.at}"
-    for message in found:
-        if not any(void in message for void in VOID):
-            if NUMBERS in message:
-                return "numbers", ""
-            return ("search" if "`search`" in message else "types"), ""
-    return None, f"{guard.at} was refused for its text alone: {found[0].splitlines()[0][:160]}"
+    facts = [message for message in found if not any(void in message for void in VOID)]
+    if not facts:
+        return None, f"{guard.at} was refused for its text alone: {found[0].splitlines()[0][:160]}"
+    if any(numbers in message for message in facts for numbers in NUMBERS):
+        return "numbers", ""
+    return ("search" if any("`search`" in message for message in facts) else "types"), ""

@@ -1,12 +1,22 @@
-"""Tries edits of some crates on a copy, by what was last proved: for the scripts that are run before a landing."""
+"""Tries edits of some crates on copies of these, and keeps all that the prover said of each.
 
-import os
+Each edit is tried over what a check of the crate as it stands proved, as rt tries must-fail edits; rt itself keeps one line of what is said.
+The logs stand in target/must-fail/CRATE/LABEL/.log, each with the sum of what it was made from: crate, libraries below, kit and edit. Where
+that is still the same, the log is not made anew.
+"""
+
+import hashlib
 import shutil
-import subprocess
+import sys
 import tempfile
 from pathlib import Path
 
 import guards as G
+
+sys.path.insert(0, str(G.ROOT / "host"))
+import kit as K
+
+LOGS = G.ROOT / "target/must-fail"
 
 
 def applied(crate, guards):
@@ -26,29 +36,88 @@ def applied(crate, guards):
     return good, bad
 
 
-def write_edit(path, guards):
-    lines = [f"file: {file}\nold: {old}\nnew: {new}\n" for guard in guards for file, old, new in guard.pairs]
-    path.write_text("".join(lines))
+class Run:
+    """One edit, the changes of some guards of a crate together, and its log."""
+
+    def __init__(self, crate, label, guards, stamp):
+        self.crate, self.folder = crate, LOGS / crate.name / label
+        self.edit = "".join(f"file: {file}\nold: {old}\nnew: {new}\n" for guard in guards for file, old, new in guard.pairs)
+        self.sum = hashlib.sha256(f"{stamp}\n{self.edit}".encode()).hexdigest()
+
+    def kept(self):
+        """The log of an earlier run of the same, or None."""
+        try:
+            if (self.folder / ".sum").read_text() == self.sum:
+                return (self.folder / ".log").read_text()
+        except OSError:
+            pass
+        return None
+
+    def keep(self, log):
+        shutil.rmtree(self.folder, ignore_errors=True)
+        self.folder.mkdir(parents=True)
+        (self.folder / ".log").write_text(log)
+        (self.folder / ".sum").write_text(self.sum)
 
 
-def try_edits(crates, runs):
-    """Tries the edits, {(crate, label): guards}, on a copy of the crates; gives the log of each."""
-    subprocess.run(["rt", "check", *crates], cwd=G.ROOT, stdout=subprocess.DEVNULL, check=True)
-    with tempfile.TemporaryDirectory() as name:
-        work = Path(name)
-        for part in ("crates", "target"):
-            shutil.copytree(G.ROOT / part, work / part)
-        shutil.copy(G.ROOT / "crates.txt", work)
-        (work / ".git").mkdir()
-        for folder in work.glob("crates/*/must-fail"):
-            shutil.rmtree(folder)
-        for (crate, label), guards in runs.items():
-            (work / "crates" / crate / "must-fail").mkdir(exist_ok=True)
-            write_edit(work / "crates" / crate / "must-fail" / f"{label}.edit", guards)
-        jobs = os.environ.get("RT_JOBS", str(2 * (os.cpu_count() or 1)))
-        subprocess.run(["rt", "must-fail", *crates], cwd=work, stdout=subprocess.DEVNULL, env={**os.environ, "RT_JOBS": jobs})
-        logs = {}
-        for crate, label in runs:
-            log = work / "target/must-fail" / crate / label / ".log"
-            logs[crate, label] = log.read_text(errors="replace") if log.is_file() else ""
-        return logs
+class Trying:
+    def __init__(self):
+        self.kit = K.Kit()
+        self.rt, self.stamps = self.kit.rt, {}
+
+    def check(self, run, over):
+        """What the prover says of the crate with the edit, over what is proved in that folder, or from nothing; None where it came to no end."""
+        texts, why = self.rt.edited(run.edit, run.crate.folder)
+        if why:
+            return f"the edit can't be applied: {why}\n"
+        for _ in range(2):  # one that was killed, most likely for memory, is tried once more
+            ran = self.rt.checked(run.crate, texts, ["--jobs", "1"], over)
+            if ran.returncode in (0, 1, 3) and not self.rt.rtlib.STALE.search(ran.stdout):
+                return ran.stdout
+        print(f"guards: {run.folder.relative_to(LOGS)}: the check ended with {ran.returncode}: {ran.stdout[-300:]}")
+        return None
+
+    def over_seed(self, run, room):
+        if room is None:
+            return None  # the crate as it stands is not proved
+        with tempfile.TemporaryDirectory(dir=room) as name:
+            self.rt.linked(f"{room}/seed", f"{name}/seed")
+            return self.check(run, f"{name}/seed")
+
+    def logs(self, wanted):
+        """The log of each edit, {(crate, label): guards}; an empty one where nothing was tried."""
+        logs, left = {}, {}
+        for (name, label), guards in wanted.items():
+            crate = self.kit.crates[name]
+            run = Run(crate, label, guards, self.rt.stamp_of(crate, self.stamps))
+            logs[name, label] = run.kept()
+            if logs[name, label] is None:
+                left.setdefault(name, {})[label] = run
+        with tempfile.TemporaryFile("w+", errors="replace") as said:
+            if left and not self.kit.libraries([self.kit.crates[name] for name in left], said):
+                said.seek(0)
+                print(f"{said.read()}guards: FAILED: a library below is not proved, so nothing was tried")
+                left = {}
+        tasks, seeds = {}, {}
+        for name, runs in left.items():
+            crate = self.kit.crates[name]
+            needs, lines, start = self.rt.need(crate), crate.count(rb"\n"), self.rt.work_for(crate)
+            seed = lambda given, jobs, crate=crate, start=start: self.rt.seeded(crate, ["--jobs", str(jobs)], start)
+            tasks[name, "seed"] = ([], lines, needs, seed)
+            for label, run in runs.items():
+                one = lambda given, jobs, run=run, name=name: self.over_seed(run, given[name, "seed"])
+                tasks[name, "edits", label] = ([(name, "seed")], lines, self.rt.OVER * needs, one)
+            end = lambda given, jobs, name=name: shutil.rmtree(given[name, "seed"] or "", ignore_errors=True)
+            tasks[name, "end"] = ([(name, "edits", label) for label in runs] + [(name, "seed")], 0, 0, end)
+        given = self.rt.in_lanes(tasks) if tasks else {}
+        for name, runs in left.items():
+            for label, run in runs.items():
+                logs[name, label] = given[name, "edits", label]
+                if logs[name, label] is not None:
+                    run.keep(logs[name, label])
+        return {key: log or "" for key, log in logs.items()}
+
+
+def try_edits(wanted):
+    """Tries the edits, {(crate, label): guards}; gives the log of each."""
+    return Trying().logs(wanted) if wanted else {}

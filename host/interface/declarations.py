@@ -46,7 +46,7 @@ def header_numbers(text):
 def source_functions(text):
     """The exported functions of the proved source. A slice is a pointer and a length."""
     found = {}
-    exported = r'#\[no_mangle\]\s*pub extern "C" fn (\w+)\(([^()]*)\) -> (\w+)'
+    exported = r'#\[unsafe\(no_mangle\)\]\s*pub extern "C" fn (\w+)\(([^()]*)\) -> (\w+)'
     for name, parameters, answer in re.findall(exported, text):
         pairs = []
         for named, kind in re.findall(r"(\w+): ([^,]*?)\s*(?:,|$)", parameters):

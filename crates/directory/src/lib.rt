@@ -242,16 +242,6 @@ fn judge_entry(
     }
 }
 
-// The release once more, for a call in a loop: `format::Release` is moved where it is passed.
-fn release_again(release: &Release) -> Release
-    ensures { result ≡ release.now }
-{
-    match release {
-        Release::R102 => Release::R102,
-        Release::R12 => Release::R12,
-    }
-}
-
 // The entries of the directory, in order.
 fn judge_entries(
     s: &[u8],
@@ -270,7 +260,7 @@ fn judge_entries(
     let mut e = first_entry(s);
     let mut k: u64 = 0;
     while k < n {
-        let v = judge_entry(s, release_again(&release), table, count, &mut judged, d, e);
+        let v = judge_entry(s, release, table, count, &mut judged, d, e);
         match v {
             Verdict::Refused { number, place } => {
                 return Verdict::Refused { number, place };

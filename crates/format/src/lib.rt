@@ -9,7 +9,7 @@ pub enum Verdict {
 }
 
 // The release of the format that a file is judged by: 1.02, in which a sub-block's attachment is plain bytes, or 1.2, in which it may be a chunk container.
-#[derive(Drop)]
+#[derive(Clone, Copy)]
 pub enum Release {
     R102,
     R12,

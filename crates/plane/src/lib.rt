@@ -2,7 +2,7 @@
 #![tactic(auto)]
 
 // A rectangle of the plane: a window, or where a tile lies. Coordinates are the signed ones plus 2^31.
-#[derive(Drop)]
+#[derive(Clone, Copy)]
 pub struct Rect {
     pub left: usize,
     pub top: usize,

@@ -8,7 +8,7 @@ use paint::Row;
 use plane::Rect;
 
 // Whether a tile is masked, and its mask's columns, rows, and bytes a line.
-#[derive(Drop)]
+#[derive(Clone, Copy)]
 pub struct Mask {
     pub on: bool,
     pub width: usize,

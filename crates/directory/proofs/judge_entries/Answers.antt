@@ -15,14 +15,14 @@ loop-k-init c = search (entries-start, none-marked)
 
 pub returns-in-Refused : goal.returns-in-Refused
 returns-in-Refused c =
-    entries-stop _ _ _ _ _ _ c.loop-k.invariant _ _ (rw c.release_again.ensures at c.judge_entry-v.ensures) c.loop-k-test.true _ _ c.in-Refused.is
+    entries-stop _ _ _ _ _ _ c.loop-k.invariant _ _ c.judge_entry-v.ensures c.loop-k-test.true _ _ c.in-Refused.is
 
 pub next_entry-e-requires : goal.next_entry-e-requires
 next_entry-e-requires c = entry_in (scan_of _ _) _ _ c.requires.room_in _ _ c.judge_entry-v.ensures c.in-Accepted.is
 
 pub loop-k-preserved : goal.loop-k-preserved
 loop-k-preserved c =
-    let j = rw c.release_again.ensures at c.judge_entry-v.ensures in
+    let j = c.judge_entry-v.ensures in
     entries_next _ _ _ _ _ _ c.loop-k.invariant _ _ j c.loop-k-test.true _ c.requires.room_in c.in-Accepted.is c.next_entry-e.ensures
 
 pub returns : goal.returns

@@ -11,7 +11,7 @@ loop-i-init c = inserting-start _ _ _ (omega arith)
 pub returns-then-below-key : goal.returns-then-below-key
 returns-then-below-key c =
     inserted-behind _ _ _ _ _ c.loop-i.invariant (c.loop-i.i - 1) _ (omega arith) refl (omega arith)
-    c.requires.1
+    c.requires.rising
 
 pub loop-i-preserved : goal.loop-i-preserved
 loop-i-preserved c = inserting-next _ _ _ _ _ c.loop-i.invariant (c.loop-i.i - 1) _ (omega arith) refl (omega arith)

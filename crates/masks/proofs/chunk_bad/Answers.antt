@@ -11,6 +11,9 @@ pub returns-then-end-c : goal.returns-then-end-c
 unfolding chunk_bad next_chunk
 returns-then-end-c c = let a = c.args in let short : a.end < a.c + 20 = omega arith in any_at _ 0 (lt-ltb _ _ short)
 
+pub chunk_size-size-requires : goal.chunk_size-size-requires
+chunk_size-size-requires c = omega arith
+
 pub returns-then-size-ge2147483648 : goal.returns-then-size-ge2147483648
 unfolding chunk_bad next_chunk
 returns-then-size-ge2147483648 c = let h : 2147483648 ≤ c.chunk_size-size.result = omega arith in search flags depth 8
