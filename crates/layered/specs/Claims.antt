@@ -9,7 +9,6 @@ use Rattle.format.specs.Directory.{tile_count}
 use Rattle.format.specs.Rules.{verdict}
 use Rattle.format.specs.Records.{tile_entry, tile_file, tile_record, tile_pixels, no_layers}
 use Rattle.format.specs.declared.Verdict.TheVariants.{Accepted}
-use Rattle.format.specs.declared.Tile.{Tile}
 use Rattle.selection.specs.Select.{chooses}
 use Rattle.plane.specs.Tiles.{covers}
 use Rattle.tiles.specs.FileTile.{rank_of, rectangle, unmasked, file_tile}

@@ -2,7 +2,7 @@
 #![tactic(auto)]
 
 // Whether masks count: not chosen, on, off.
-#[derive(Drop)]
+#[derive(Clone, Copy)]
 pub enum Masks {
     NotChosen,
     On,
@@ -10,7 +10,7 @@ pub enum Masks {
 }
 
 // The question but for its starts and the background: the asked pixel type, the window, and the masks choice.
-#[derive(Drop)]
+#[derive(Clone, Copy)]
 pub struct WindowRequest {
     pub pixel_type: u64,
     pub left: i32,
