@@ -1,5 +1,5 @@
 -- The ones of a byte's first bits, and of a map's.
-use mathlib.Core.Path.{◌≡◌, refl, sym, ap, ap₂, ◌∙◌}
+use mathlib.Core.Path.{◌≡◌, refl, sym, ap, ◌∙◌}
 use Prim.Native.Nat.{ℕ, zero, suc, ◌+◌, ◌*◌, ◌-◌, ◌/◌, ◌%◌, ◌^◌, ◌≤◌, ◌<◌}
 use native.Mathlib.Nat.{add_comm, pow-suc, div-div-eq-div-mul, div-eq_of_lt, div-one}
 use native.Mathlib.Omega.{arith}

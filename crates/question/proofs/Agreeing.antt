@@ -1,12 +1,12 @@
 -- Refusal 23: it is not given where it is given at no entry, nor of a window that meets no more tiles. Assumes nothing.
 use Prim.Native.Nat.{ℕ, ◌<◌}
 use mathlib.Core.Path.{◌≡◌, refl}
-use mathlib.Core.List.{List, [], ◌∷◌}
+use mathlib.Core.List.{List}
 use mathlib.Core.Bool.{Bool, true, false, cond, not}
 use lib.Dec.{eqb}
 use borrow.Author.Tests.{ltb-true, lt-ltb}
 use Rattle.format.specs.Entry.{pixel_type}
-use Rattle.format.specs.Checks.{Check, row, first}
+use Rattle.format.specs.Checks.{first}
 use Rattle.format.specs.Directory.{tile_count, entry_place}
 use Rattle.format.specs.declared.Verdict.TheVariants.{Accepted}
 use Rattle.format.proofs.Below.{and_both}

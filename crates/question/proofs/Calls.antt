@@ -3,7 +3,6 @@ use Prim.Native.Nat.{ℕ}
 use mathlib.Core.Path.{◌≡◌, refl}
 use mathlib.Core.List.{List}
 use lib.ListN.{length}
-use Rattle.format.specs.Scan.{scan_of}
 use Rattle.format.specs.Directory.{tile_count}
 use Rattle.format.specs.declared.Verdict.{Verdict}
 use Rattle.format.specs.declared.Verdict.TheVariants.{Accepted, Refused}
@@ -14,7 +13,6 @@ use Rattle.plane.specs.Demand2.{Room}
 use Rattle.plane.specs.Cuts.{Proper}
 use Rattle.plane.specs.Demand3 as Runs
 use Rattle.plane.proofs.Demand3.{demand3}
-use Rattle.question.specs.Question.{masks_on}
 use Rattle.question.specs.Call.{Asked, choice_of, chosen, call_verdict, asked_window, asked_bytes}
 use Rattle.question.specs.Call.{selected, painted, answer, target_after, map_after, covered_in}
 use Rattle.question.specs.Demand3.{after}

@@ -9,7 +9,6 @@ use Rattle.plane.specs.Turns.{Kind}
 use Rattle.question.specs.Question.{masks_on}
 use Rattle.question.specs.Call.{Asked, chosen, call_verdict, selected, answer, target_after, map_after}
 use Rattle.question.specs.declared.Masks.{Masks}
-use Rattle.question.specs.declared.WindowRequest.{WindowRequest}
 
 -- the same call under the release r
 abbrev pub under : Release → Asked → Asked

@@ -4,14 +4,13 @@ use mathlib.Core.Path.{◌≡◌, sym, ◌∙◌}
 use mathlib.Core.List.{List}
 use mathlib.Core.Bool.{Bool, true, false, cond, ◌&&◌, and-false, true≢false}
 use native.Mathlib.Omega.{arith}
-use lib.Dec.{eqb, leb, ltb}
+use lib.Dec.{leb, ltb}
 use lib.IntN.{ℤ}
-use lib.ListN.{length}
 use borrow.Author.Tests.{lt-ltb, le-ltb, le-leb, lt-leb, ne_eqb, leb-true, ltb-true}
 use Rattle.format.specs.Bytes.{any_of, any_below, all_below, biased}
 use Rattle.format.specs.Choice.{asked_start, asked_layer}
-use Rattle.format.specs.Entry.{dimension_count, dimensions_bad, next_entry, has_letter, letter_index, letter_place, dimension_place, letter, start, size}
-use Rattle.format.specs.Entry.{is_pyramid, is_layered, layers_place, layer_count}
+use Rattle.format.specs.Entry.{dimension_count, dimensions_bad, has_letter, letter_index, letter_place, letter, start, size}
+use Rattle.format.specs.Entry.{is_pyramid, is_layered, layers_place}
 use Rattle.format.proofs.Below.{by_bool, and_both, all-at}
 use Rattle.entries.proofs.EntryLaws.{letter-placed, dimensions-ok, one-plane, several-planes}
 use Rattle.entries.proofs.LayerLaws.{Layered, layers-ok}

@@ -1,20 +1,19 @@
 -- How the call that fills lent arrays answers: by the file's verdict, answered as v, and by whether they are too short. Assumes nothing.
 use Prim.Native.Nat.{ℕ}
-use mathlib.Core.Path.{◌≡◌, refl, sym, ap, ◌∙◌}
+use mathlib.Core.Path.{◌≡◌, refl, sym, ◌∙◌}
 use mathlib.Core.List.{List, [], ◌∷◌}
 use mathlib.Core.Bool.{Bool, true, false}
 use native.Mathlib.Omega.{arith}
 use lib.IntN.{ℤ}
 use Rattle.format.specs.Scan.{Scan}
-use Rattle.format.specs.Checks.{row, first, number_of, if_accepted}
+use Rattle.format.specs.Checks.{row}
 use Rattle.format.specs.Rules.{checks, verdict}
 use Rattle.format.specs.Answers.{VerdictAnswered}
 use Rattle.format.specs.declared.Verdict.{Verdict}
 use Rattle.format.specs.declared.Verdict.TheVariants.{Accepted, Refused}
-use Rattle.format.proofs.Answering.{verdict-answered, accepted}
+use Rattle.format.proofs.Answering.{verdict-answered}
 use Rattle.directory.proofs.Stages.{then-stop, then_next}
 use Rattle.tables.specs.Tables.{table_verdict, Arrays, TableAnswered}
-use Rattle.tables.specs.declared.tiles.Table.{Table}
 
 -- a refusal accepts nothing
 refused-not : {P : Type 0} {m p : ℕ} → Refused m p ≡ Accepted → P

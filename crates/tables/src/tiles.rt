@@ -45,18 +45,18 @@ fn tile_of(s: &[u8], release: Release, k: u64, e: u64) -> Tile
 }
 
 // Puts a record's numbers into row k.
-fn put_tile_numbers(t: Tile, k: u64, numbers: &mut [u64])
+fn put_tile_numbers(t: &Tile, k: u64, numbers: &mut [u64])
     requires { (k < 4096) × (24 * (k + 1) ≤ length numbers.old) }
-    ensures { Stretch 0 (24 * k) 24 (tile_numbers t) numbers.old numbers.new }
+    ensures { Stretch 0 (24 * k) 24 (tile_numbers t.now) numbers.old numbers.new }
 {
     let row = tile_numbers(t);
     put_numbers(numbers, (24 * k) as usize, &row);
 }
 
 // Puts its signed numbers into row k.
-fn put_tile_starts(t: Tile, k: u64, starts: &mut [i32])
+fn put_tile_starts(t: &Tile, k: u64, starts: &mut [i32])
     requires { (k < 4096) × (4 * (k + 1) ≤ length starts.old) }
-    ensures { Stretch (pos 0) (4 * k) 4 (tile_starts t) starts.old starts.new }
+    ensures { Stretch (pos 0) (4 * k) 4 (tile_starts t.now) starts.old starts.new }
 {
     let row = tile_starts(t);
     put_starts(starts, (4 * k) as usize, &row);
@@ -69,8 +69,18 @@ fn put_tile(s: &[u8], release: Release, k: u64, e: u64, numbers: &mut [u64], sta
     ensures { TilePut (scan_of s.now release) k numbers.old starts.old numbers.new starts.new }
 {
     let t = tile_of(s, release, k, e);
-    put_tile_numbers(t, k, numbers);
-    put_tile_starts(t, k, starts);
+    put_tile_numbers(&t, k, numbers);
+    put_tile_starts(&t, k, starts);
+}
+
+// The release once more, for a call after which it is needed still: `format::Release` is moved where it is passed.
+fn release_again(release: &Release) -> Release
+    ensures { result ≡ release.now }
+{
+    match release {
+        Release::R102 => Release::R102,
+        Release::R12 => Release::R12,
+    }
 }
 
 // Puts the records of the n tiles of an accepted file.
@@ -82,7 +92,7 @@ fn put_tiles(s: &[u8], release: Release, n: u64, numbers: &mut [u64], starts: &m
     let mut e = directory::first_entry(s);
     let mut k: u64 = 0;
     while k < n {
-        put_tile(s, release, k, e, numbers, starts);
+        put_tile(s, release_again(&release), k, e, numbers, starts);
         e = entries::next_entry(s, e);
         k += 1;
     }
@@ -93,7 +103,7 @@ pub fn tiles(s: &[u8], release: Release, numbers: &mut [u64], starts: &mut [i32]
     ensures table_answered { TableAnswered (tiles_verdict (scan_of s.now release) (length numbers.old) (length starts.old)) (tile_count s.now) result }
     ensures tile_arrays { TileArrays (scan_of s.now release) numbers.old starts.old numbers.new starts.new }
 {
-    let v = judge::judge(s, release);
+    let v = judge::judge(s, release_again(&release));
     match v {
         Verdict::Refused { number, place } => Table {
             verdict: Verdict::Refused { number, place },

@@ -1,4 +1,3 @@
-use Prim.Native.Nat.{◌-◌}
 use Rattle.keys.proofs.Inserting.{Inserting}
 use Rattle.keys.proofs.insert.Given as goal
 

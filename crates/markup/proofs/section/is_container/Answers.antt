@@ -47,6 +47,9 @@ pub returns-then-depth-eq0 : goal.returns-then-depth-eq0
 returns-then-depth-eq0 c =
     none_open (told c.loop-at.invariant c.loop-at-test.true c.item_at-token.ensures c.in-Close.is) c.if-depth-eq0.true
 
+pub overflow_sub-depth : goal.overflow_sub-depth
+overflow_sub-depth c = omega arith
+
 pub offset_bounds-places-depth-in-Close : goal.offset_bounds-places-depth-in-Close
 offset_bounds-places-depth-in-Close c = omega (arith, c.loop-at.invariant.lie.few)
 

@@ -1,0 +1,16 @@
+-- `tables::numbers::tile_starts` meets its contract.
+use native.Mathlib.Omega.{arith}
+use Rattle.entries.proofs.ReadBack.{read_back}
+use Rattle.tables.specs.Numbers.{tile_starts}
+use Rattle.tables.proofs.numbers.tile_starts.Goals as goal
+
+pub returns : goal.returns
+unfolding tile_starts
+returns c =
+    rw (
+      read_back c.args.t.now.x.start (omega arith),
+      read_back c.args.t.now.y.start (omega arith),
+      read_back c.m_index_numbers-index.result.start (omega arith),
+      read_back c.args.t.now.layers.start (omega arith),
+      c.m_index_numbers-index.ensures,
+    )
