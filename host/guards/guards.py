@@ -14,7 +14,7 @@ file in one run; the other lines say what each block is for:
 guard:  a name, once in its crate.
 of:     what it guards: rows of the refusal table by number, with condition, place or order; or a try in words. More, by ';'.
 at:     the function, or the file of laws, and the goal, the fact that it rests on, or the law, at which it must be refused. Rattle names a
-        goal by the tests on the way to it: where the guard changes such a test, the goal's name is that of the changed code.
+        goal by the tests on the way to it; where the guard changes such a test, it is the name before the change (trying.py) or after it.
 why:    why that goal is false then. Needed where the prover names no numbers at which it fails.
 A block may have several old:/new: pairs: two tests that change places.
 """
@@ -107,6 +107,12 @@ def all_guards(only=()):
     return guards, faults
 
 
+def unproved(line):
+    """The goals that a line of a log names as not proved, and for which no answer is written."""
+    match = re.match(r"note: (?:\./)?src/\S+:\d+:\d+: it is not proved that .*\((`[^()]+`)\)", line)
+    return re.findall(r"`([^`]+)`", match[1]) if match else []
+
+
 def entries(log):
     """The errors of a check's log: (function or file of laws, goal or law, message with the lines under it)."""
     found, waiting, under = [], [], None
@@ -121,8 +127,8 @@ def entries(log):
             under = [re.sub(r"/(Answers|Invariants|Proof)$", "", match[1]), match[2], match[3]]
             found.append(under)
         # a goal that no answer was written for, and that `search` did not prove: the line of its function follows
-        elif match := re.match(r"note: (?:\./)?src/\S+:\d+:\d+: it is not proved that .*\((`[^()]+`)\)(.*)", line):
-            waiting += [[goal, f"`search` did not prove it{match[2]}"] for goal in re.findall(r"`([^`]+)`", match[1])]
+        elif goals := unproved(line):
+            waiting += [[goal, f"`search` did not prove it{line.rpartition(')')[2]}"] for goal in goals]
         elif match := re.match(r"fn (\S+): (.*)", line):
             function = match[1].split("::")[-1]
             if match[2].startswith("no"):
@@ -133,15 +139,15 @@ def entries(log):
     return found
 
 
-def messages(guard, log):
-    """What a check's log says against the guard's need."""
-    function, need = guard.at.split()
-    return [m for file, name, m in entries(log) if name == need and (file == function or file.endswith("/" + function))]
+def messages(guard, log, goal=None):
+    """What a check's log says against the guard's goal, which may have another name there."""
+    function, named = guard.at.split()
+    return [m for file, name, m in entries(log) if name == (goal or named) and (file == function or file.endswith("/" + function))]
 
 
-def refusal(guard, log):
+def refusal(guard, log, goal=None):
     """How the guard was refused: numbers, search or types; or what is wrong, and then None."""
-    found = messages(guard, log)
+    found = messages(guard, log, goal)
     if not found:
         return None, f"no error at {guard.at}"
     facts = [message for message in found if not any(void in message for void in VOID)]
