@@ -73,16 +73,6 @@ fn put_tile(s: &[u8], release: Release, k: u64, e: u64, numbers: &mut [u64], sta
     put_tile_starts(&t, k, starts);
 }
 
-// The release once more, for a call after which it is needed still: `format::Release` is moved where it is passed.
-fn release_again(release: &Release) -> Release
-    ensures { result ≡ release.now }
-{
-    match release {
-        Release::R102 => Release::R102,
-        Release::R12 => Release::R12,
-    }
-}
-
 // Puts the records of the n tiles of an accepted file.
 fn put_tiles(s: &[u8], release: Release, n: u64, numbers: &mut [u64], starts: &mut [i32])
     requires release_value { (verdict (scan_of s.now release) ≡ Accepted) × (n ≡ tile_count s.now) }
@@ -92,7 +82,7 @@ fn put_tiles(s: &[u8], release: Release, n: u64, numbers: &mut [u64], starts: &m
     let mut e = directory::first_entry(s);
     let mut k: u64 = 0;
     while k < n {
-        put_tile(s, release_again(&release), k, e, numbers, starts);
+        put_tile(s, release, k, e, numbers, starts);
         e = entries::next_entry(s, e);
         k += 1;
     }
@@ -103,7 +93,7 @@ pub fn tiles(s: &[u8], release: Release, numbers: &mut [u64], starts: &mut [i32]
     ensures table_answered { TableAnswered (tiles_verdict (scan_of s.now release) (length numbers.old) (length starts.old)) (tile_count s.now) result }
     ensures tile_arrays { TileArrays (scan_of s.now release) numbers.old starts.old numbers.new starts.new }
 {
-    let v = judge::judge(s, release_again(&release));
+    let v = judge::judge(s, release);
     match v {
         Verdict::Refused { number, place } => Table {
             verdict: Verdict::Refused { number, place },

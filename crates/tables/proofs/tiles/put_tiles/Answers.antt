@@ -11,13 +11,13 @@ pub loop-k-init : goal.loop-k-init
 loop-k-init c = search tiles-start
 
 pub put_tile-requires : goal.put_tile-requires
-put_tile-requires c = record { release_value = rw c.release_again.ensures (search tiles-at); row_room = search tiles-room }
+put_tile-requires c = search (tiles-at, tiles-room)
 
 pub next_entry-e-requires : goal.next_entry-e-requires
 next_entry-e-requires c = search (accepted-under, at-fixed, tiles-all)
 
 pub loop-k-preserved : goal.loop-k-preserved
-loop-k-preserved c = let p = rw c.release_again.ensures at c.put_tile.ensures in search tiles-next
+loop-k-preserved c = search tiles-next
 
 pub shape_of-numbers : goal.shape_of-numbers
 shape_of-numbers c = c.loop-k.invariant.numbers-are.size_is

@@ -15,15 +15,15 @@ too_short-requires c = (search (tiles-few, accepted-file), omega arith, omega ar
 
 pub returns-then-too_short : goal.returns-then-too_short
 unfolding tiles_verdict
-returns-then-too_short c = let v = rw c.release_again.ensures at c.judge-v.ensures in record { table_answered = search (too_short, tiles-short); tile_arrays = search (short-kept, tiles-short) }
+returns-then-too_short c = record { table_answered = search (too_short, tiles-short); tile_arrays = search (short-kept, tiles-short) }
 
 pub put_tiles-requires : goal.put_tiles-requires
-put_tiles-requires c = let v = rw c.release_again.ensures at c.judge-v.ensures in search (accepted, tiles-enough)
+put_tiles-requires c = search (accepted, tiles-enough)
 
 pub returns-in-Refused : goal.returns-in-Refused
 unfolding tiles_verdict
-returns-in-Refused c = let v = rw c.release_again.ensures at c.judge-v.ensures in record { table_answered = search file-refused; tile_arrays = search file-kept }
+returns-in-Refused c = record { table_answered = search file-refused; tile_arrays = search file-kept }
 
 pub returns-else-too_short : goal.returns-else-too_short
 unfolding tiles_verdict
-returns-else-too_short c = let v = rw c.release_again.ensures at c.judge-v.ensures in record { table_answered = search (enough, tiles-short); tile_arrays = search (enough-filled, tiles-short) }
+returns-else-too_short c = record { table_answered = search (enough, tiles-short); tile_arrays = search (enough-filled, tiles-short) }

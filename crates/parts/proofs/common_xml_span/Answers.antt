@@ -1,0 +1,16 @@
+-- `parts::common_xml_span` meets its contract.
+use Rattle.format.specs.Records.{common_xml}
+use Rattle.format.proofs.Answering.{span-refused, span-found}
+use Rattle.judge.proofs.AcceptedFile.{accepted-file}
+use Rattle.parts.proofs.common_xml_span.Goals as goal
+
+pub xml_span-requires : goal.xml_span-requires
+xml_span-requires c = search accepted-file
+
+pub returns-in-Refused : goal.returns-in-Refused
+unfolding common_xml
+returns-in-Refused c = search span-refused
+
+pub returns-in-Accepted : goal.returns-in-Accepted
+unfolding common_xml
+returns-in-Accepted c = search span-found
