@@ -19,6 +19,8 @@ use Rattle.format.specs.declared.Verdict.TheVariants.{Accepted, Refused}
 use Rattle.format.proofs.Firsts.{passed}
 use Rattle.directory.proofs.Stages.{then-stop, then_next}
 use Rattle.plane.specs.declared.Rect.{Rect}
+use Rattle.plane.specs.Paint.{ones}
+use Rattle.plane.specs.Tiles.{area}
 use Rattle.plane.specs.Turns.{Painting, Kind, compose}
 use Rattle.tiles.specs.FileTile.{rectangle, meets, file_tile, tiles_below, paints}
 use Rattle.selection.specs.Table.{Selection}
@@ -193,13 +195,17 @@ module _ (a : Asked) (t m : List ℕ) {table : List ℕ} {w : Rect} (v : Verdict
         (ap (λ l. compose k (asked_window a) (asked_bytes a) a.background l t m)
         (tiles-ext (tile_count a.scan.file) (choice_of a) (chosen_in table) (chosen a) (x.selects_so y).as_asked))
 
+    -- the count is that of the asked window
+    covered-asked : c.covered ≡ ones (area (asked_window a)) m'
+    covered-asked = d.covered-is ∙ ap (λ v. ones (area v) m') e
+
     pub done : Answered k a t m t' m' (Ans.Done c.covered c.stored)
     unfolding answer target_after map_after
     done = record {
-      answer_is = rw (accepted, ← whole-call, ← e, ← d.covered-is);
+      answer_is = rw (accepted, ← whole-call) (ap (λ n. Ans.Done n c.stored) covered-asked);
       number_is = rw accepted;
       place_is = rw accepted;
-      covered-is = rw (accepted, ← whole-call, ← e, ← d.covered-is);
+      covered-is = rw (accepted, ← whole-call) covered-asked;
       stored_is = rw (accepted, ← whole-call);
       target_is = rw (accepted, ← whole-call);
       map_is = rw (accepted, ← whole-call);
