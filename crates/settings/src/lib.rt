@@ -14,14 +14,14 @@ use markup::stretches::begins_with;
 use question::Masks;
 
 // The edition of the settings: 1 or 2.
-#[derive(Drop)]
+#[derive(Clone, Copy)]
 pub enum Edition {
     First,
     Second,
 }
 
 // What settings say: the pitches in nanometres, and the masks choice, which is not made where the line lacks.
-#[derive(Drop)]
+#[derive(Clone, Copy)]
 pub struct Settings {
     pub edition: Edition,
     pub pitch_x: u64,
