@@ -3,8 +3,6 @@ use mathlib.Core.Path.{refl}
 use Prim.Native.Nat.{◌+◌}
 use native.Mathlib.Omega.{arith}
 use Rattle.pack.proofs.Puts.{put-copied}
-use Rattle.pack.proofs.put_part.Reads as reads
-use Rattle.pack.proofs.put_part.Lts as lts
 use Rattle.pack.proofs.put_part.Goals as goal
 
 pub returns : goal.returns

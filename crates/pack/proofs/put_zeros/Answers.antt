@@ -1,6 +1,5 @@
 -- `pack::put_zeros` meets its contract.
 use mathlib.Core.Path.{refl, sym, ◌∙◌}
-use Prim.Native.Nat.{◌-◌}
 use native.Mathlib.Omega.{arith}
 use lib.ListN.{length-set}
 use Rattle.pack.proofs.Puts.{zeros-start, zeros-next, zeros-end}
