@@ -1,5 +1,5 @@
 -- The refusals of a call, one stage after another, and what an accepted one tells the painting. Assumes nothing.
-use Prim.Native.Nat.{ℕ, zero, suc, ◌+◌, ◌≤◌, ◌<◌}
+use Prim.Native.Nat.{ℕ, zero, suc, ◌≤◌, ◌<◌}
 use mathlib.Core.Path.{◌≡◌, refl, sym, ap, ◌∙◌}
 use mathlib.Core.List.{List}
 use mathlib.Core.Bool.{Bool, true, false, cond, not, true≢false}
@@ -27,7 +27,7 @@ use Rattle.selection.specs.Table.{Selection}
 use Rattle.selection.proofs.Chosen.{not_chosen, is-chosen}
 use Rattle.selection.proofs.Starts.{selected-whole, selected-layer}
 use Rattle.judge.proofs.AcceptedFile.{tiled}
-use Rattle.question.specs.Question.{masks_on, type_bad, agree_row, ask_rows, agree_rows, request_window, window_bad}
+use Rattle.question.specs.Question.{masks_on, type_bad, ask_rows, agree_rows, request_window, window_bad}
 use Rattle.question.specs.Call.{Asked, choice_of, chosen, call_verdict, asked_window, asked_bytes, selected, painted, answer, target_after, map_after, Answered}
 use Rattle.question.specs.declared.WindowRequest.{WindowRequest}
 use Rattle.question.specs.declared.Composed.TheVariants as Ans

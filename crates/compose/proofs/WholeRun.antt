@@ -24,7 +24,6 @@ use Rattle.tiles.specs.FileTile.{tiles_below, paints}
 use Rattle.judge.proofs.AcceptedFile.{tiled}
 use Rattle.question.proofs.Ranks.{tiles-ranked}
 use Rattle.compose.specs.Steps.{chosen_in, Gathered, tile_of_key, turn_order, RunRoom, RunDone, PlaneRoom, Begun, PlaneDone}
-use Rattle.compose.specs.declared.Counts.{Counts}
 use Rattle.compose.proofs.Along.{along}
 
 -- the background and the zero map are the start

@@ -1,5 +1,5 @@
 -- Answers that are enums: for each case the paper's number and place and the value, all zero where refused; and the promise of each kind of answer.
-use Rattle.std.specs.Prelude.{ℕ, ◌≡◌, pos}
+use Rattle.std.specs.Prelude.{◌≡◌, pos}
 use Rattle.std.specs.Float.Ieee.{of_bits}
 use Rattle.std.specs.Float.{binary32}
 use Rattle.format.specs.Checks.{number_of, place_of, if_accepted}

@@ -1,13 +1,11 @@
 -- A quote step by step, as the code takes them: the sheet, the composer's call, and the settings before both. Assumes nothing.
-use Prim.Native.Nat.{ℕ, ◌+◌, ◌*◌, ◌^◌, ◌≤◌, ◌<◌}
+use Prim.Native.Nat.{ℕ, ◌≤◌, ◌<◌}
 use mathlib.Core.Path.{◌≡◌, refl, sym, ◌∙◌, ap}
-use mathlib.Core.List.{List, [], ◌∷◌, ◌++◌}
-use mathlib.Core.Bool.{Bool, true, false}
+use mathlib.Core.List.{List, [], ◌++◌}
+use mathlib.Core.Bool.{Bool, true}
 use native.Mathlib.Omega.{arith}
 use lib.ListN.{length}
 use lib.IntN.{ℤ}
-use Rattle.format.specs.Scan.{scan_of}
-use Rattle.format.specs.Checks.{and_then, if_accepted, number_of, place_of}
 use Rattle.format.specs.declared.Release.{Release}
 use Rattle.format.specs.declared.Verdict.{Verdict}
 use Rattle.format.specs.declared.Verdict.TheVariants.{Accepted, Refused}
@@ -26,7 +24,7 @@ use Rattle.settings.specs.declared.Settings.{Settings}
 use Rattle.settings.specs.declared.SettingsAnswer.{SettingsAnswer}
 use Rattle.settings.specs.declared.SettingsAnswer.TheVariants as Text
 use Rattle.settings.proofs.Reading.{all-settings}
-use Rattle.quote.specs.Quote.{QuoteAsked, request_with, asked_with, sheet_bad, quote_verdict, sheet_text, overlaid, quoted_if}
+use Rattle.quote.specs.Quote.{QuoteAsked, request_with, quote_verdict}
 use Rattle.quote.specs.Quote.{verdict_of, count_of, sheet_for, quoted, quote_target, quote_map, quote_sheet, QuoteAnswered}
 use Rattle.quote.specs.Steps.{quote_asked, Pitched, SheetWritten, Finished, lending_of, QuoteBy, ShortAsked, ShortRefused}
 use Rattle.quote.specs.declared.QuoteRequest.{QuoteRequest}

@@ -1,14 +1,14 @@
 -- A pitch by the places where its digits end, as the code finds them. Assumes nothing.
-use Prim.Native.Nat.{ℕ, zero, suc, ◌+◌, ◌-◌, ◌*◌, ◌^◌, ◌≤◌, ◌<◌}
-use mathlib.Core.Path.{◌≡◌, refl, sym, ◌∙◌, ap}
+use Prim.Native.Nat.{ℕ, ◌+◌, ◌-◌, ◌*◌, ◌^◌, ◌≤◌, ◌<◌}
+use mathlib.Core.Path.{◌≡◌, refl, sym, ◌∙◌}
 use mathlib.Core.List.{List, [], ◌∷◌}
-use mathlib.Core.Bool.{Bool, true, false, cond, not, true≢false}
+use mathlib.Core.Bool.{Bool, true, false, not, true≢false}
 use native.Mathlib.Omega.{arith}
 use lib.ListN.{length, drop}
 use lib.Dec.{eqb, ltb}
 use borrow.Author.Tests.{eq-eqb, ne_eqb, lt-ltb, le-ltb, ltb-true, ltb-false, eqb-false, not-true, not-false}
 use Rattle.format.specs.Bytes.{any_of}
-use Rattle.format.specs.Markup.{every, front, behind, begins}
+use Rattle.format.specs.Markup.{every, front, begins}
 use Rattle.format.proofs.Below.{by_bool, none}
 use Rattle.format.proofs.Stretches.{every_front}
 use Rattle.markup.specs.Stretches.{stretch, Passed}

@@ -1,5 +1,4 @@
 -- `compose::agree` meets its contract.
-use Prim.Native.Nat.{◌-◌}
 use native.Mathlib.Omega.{arith}
 use Rattle.compose.proofs.Agreeing.{table-few, table-listed, agree-start, agree-next, agree-stop, agree-end}
 use Rattle.compose.proofs.agree.Goals as goal

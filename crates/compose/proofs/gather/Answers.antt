@@ -1,5 +1,4 @@
 -- `compose::gather` meets its contract.
-use Prim.Native.Nat.{◌-◌}
 use native.Mathlib.Omega.{arith}
 use Rattle.compose.proofs.Agreeing.{table-few}
 use Rattle.compose.proofs.Gathering.{gather-start, add-room, gather-next, gather-end}

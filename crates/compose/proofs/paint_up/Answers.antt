@@ -1,5 +1,4 @@
 -- `compose::paint_up` meets its contract.
-use Prim.Native.Nat.{◌-◌}
 use native.Mathlib.Omega.{arith}
 use Rattle.compose.proofs.Running.{keys-few, key-room, same_target, same_map, up_start, up_next, up_fits, up-end}
 use Rattle.compose.proofs.paint_up.Goals as goal

@@ -1,5 +1,4 @@
 -- `fields::copy_out` meets its contract.
-use Prim.Native.Nat.{◌-◌}
 use Rattle.fields.proofs.Copying.{copying-start, copying-next, copying-end}
 use Rattle.fields.proofs.copy_out.Goals as goal
 

@@ -1,5 +1,4 @@
 -- `fields::same_range` meets its contract.
-use Prim.Native.Nat.{◌-◌}
 use mathlib.Core.Path.{◌≡◌}
 use native.Mathlib.Omega.{arith}
 use Rattle.format.specs.Bytes.{same_range}

@@ -6,9 +6,8 @@ use mathlib.Core.Bool.{Bool, true, false, not}
 use lib.Dec.{eqb}
 use Rattle.format.proofs.Flags.{cond-true, not-is-true, not-is-false, eq_yes, eq_no}
 use Rattle.format.specs.Names.{name_directory, name_metadata, name_attachment_directory}
-use Rattle.format.specs.File.{major, file_part, update_pending, directory_position, metadata_position, attachment_directory_position}
+use Rattle.format.specs.File.{file_part, update_pending, directory_position, metadata_position, attachment_directory_position}
 use Rattle.format.specs.File.{names_none, names_none_but0, file_rows}
-use borrow.Author.Rules.{rules}
 use Rattle.judge.proofs.judge_file.Goals as goal
 use Rattle.judge.proofs.judge_file.Goals.{Then-file_part-ne0, Then-update_pending-ne0, Then-names_none, Then-names_none_but_0, Then-names_none_but_0-2}
 

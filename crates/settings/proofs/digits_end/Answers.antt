@@ -1,5 +1,4 @@
 -- `settings::digits_end` meets its contract.
-use Prim.Native.Nat.{◌-◌}
 use Rattle.markup.proofs.Classes.{of-class, of_other}
 use Rattle.markup.proofs.Stretching.{passing-start, passing-next, passed_here, passed-all}
 use Rattle.settings.specs.Settings.{digit}

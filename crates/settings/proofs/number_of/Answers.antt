@@ -1,5 +1,4 @@
 -- `settings::number_of` meets its contract.
-use Prim.Native.Nat.{◌-◌}
 use native.Mathlib.Omega.{arith}
 use Rattle.settings.proofs.Numbers.{spelling-start, spelling-step, spelling-small, spelling-end, byte_low}
 use Rattle.settings.proofs.number_of.Goals as goal

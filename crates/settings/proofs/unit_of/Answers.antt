@@ -1,5 +1,4 @@
 -- `settings::unit_of` meets its contract.
-use Prim.Native.Nat.{◌-◌}
 use native.Mathlib.Omega.{arith}
 use Rattle.settings.proofs.Numbers.{unit-one, unit-two, unit-three}
 use Rattle.settings.proofs.unit_of.Goals as goal
