@@ -53,6 +53,7 @@ pub fn window_of(f: WindowRequest) -> Rect
 }
 
 // Refusal 20.
+#[tactic(auto, using(format::proofs::Flags::flags), unfolding(question::specs::Question::window_bad))]
 fn window_bad(f: WindowRequest) -> bool
     ensures { result ≡ window_bad (request_window f) }
 {
@@ -80,6 +81,7 @@ fn window_bad(f: WindowRequest) -> bool
 }
 
 // Refusal 21.
+#[tactic(auto, using(format::proofs::Flags::flags), unfolding(question::specs::Question::pixel_bad))]
 fn pixel_bad(t: u64, background: &[u8]) -> bool
     ensures { result ≡ pixel_bad t background.now }
 {

@@ -35,6 +35,7 @@ fn tile_start(s: &[u8], e: u64, x: u64) -> u64
 }
 
 // X, Y and M select nothing, nor does S where it is "any".
+#[tactic(auto, using(format::proofs::Flags::flags), unfolding(crate::specs::Select::free))]
 fn is_free(any_scene: bool, x: u64) -> bool
     ensures { result ≡ free any_scene x }
 {
@@ -89,6 +90,7 @@ fn has_start(s: &[u8], e: u64, starts: &[i32], any_scene: bool, x: u64) -> bool
 }
 
 // The entry at e is selected: no pyramid tile, and it has the question's start in each letter.
+#[tactic(auto, using(format::proofs::Flags::flags), unfolding(crate::specs::Select::selects))]
 pub fn is_selected(s: &[u8], e: u64, starts: &[i32], any_scene: bool) -> bool
     requires { (next_entry s.now e ≤ length s.now) × (dimensions_bad s.now e ≡ false) }
     ensures { result ≡ selects s.now starts.now any_scene e }
