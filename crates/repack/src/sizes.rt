@@ -14,7 +14,7 @@ ghost use Rattle.repack.specs.Places.{PlacesAre};
 
 // How many tiles and attachments the old file has, and where in the new one stand the first sub-block, the metadata segment, the attachment directory,
 // the first attachment, or would if it were there, and where the file ends.
-#[derive(Drop)]
+#[derive(Clone, Copy)]
 pub struct Places {
     pub tiles: u64,
     pub attachments: u64,
