@@ -91,6 +91,12 @@ def by_names(text, names):
     return re.sub(rf"(?<=-)({old})(?![\w'])", lambda match: names[match[1]], text) if names else text
 
 
+def goal_of(guard, names):
+    """The guard's goal by the new names."""
+    function, goal = guard.at.split()
+    return next((by_names(goal, of) for folder, of in names.items() if folder.split("/")[-1] == function), goal)
+
+
 class Run:
     """One edit, the changes of some guards of a crate together, and its log; with the proofs by new names, where there are such."""
 
@@ -182,5 +188,12 @@ class Trying:
 
 
 def try_edits(wanted):
-    """Tries the edits, {(crate, label): guards}; gives the log of each."""
-    return Trying().logs(wanted) if wanted else {}
+    """Tries the edits, {(crate, label): guards}; gives the log of each, with the proofs by new names where there are such, and these."""
+    if not wanted:
+        return {}
+    tries = Trying()
+    logs = tries.logs(wanted)
+    names = {run: renamed(run[0], log) for run, log in logs.items()}
+    named = {run: (run[0], f"{run[1]}-named") for run in wanted if names[run]}
+    more = tries.logs({to: wanted[run] for run, to in named.items()}, {to: names[run] for run, to in named.items()})
+    return {run: (more[named[run]] if run in named else log, names[run]) for run, log in logs.items()}
