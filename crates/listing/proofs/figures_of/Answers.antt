@@ -3,15 +3,13 @@ use Prim.Native.Nat.{ℕ}
 use mathlib.Core.Path.{◌≡◌}
 use mathlib.Core.List.{List}
 use lib.ListN.{length}
-use borrow.Author.Rules.{rules}
 use Rattle.format.specs.Segments.{walked}
 use Rattle.format.specs.Directory.{tile_count}
 use Rattle.format.specs.Attachments.{attachment_count}
 use Rattle.listing.specs.Figures.{corners_below, figures_of}
 use Rattle.listing.specs.declared.Corners.{Corners}
 use Rattle.listing.specs.declared.Figures.{Figures}
-use Rattle.listing.proofs.figures_of.Statement.{statement}
-use Rattle.listing.proofs.figures_of.Tie as tie
+use Rattle.listing.proofs.figures_of.Goals as goal
 
 -- figures of the file bs, one by one
 abbrev figures : ℕ → ℕ → ℕ → ℕ → Corners → Figures
@@ -22,15 +20,5 @@ figures-are : (bs : List ℕ) (s t a : ℕ) (c : Corners)
 unfolding figures_of
 figures-are bs s t a c e f g h = rw (h, e, f, g)
 
-returns : tie.Need-returns
+pub returns : goal.returns
 returns c = search figures-are
-
-pub figures-of-spec : {M : Type 1} → statement M
-figures-of-spec =
-    tie.close
-    (tie.spec
-    (λ c κs. search rules)
-    (λ c κs. search rules)
-    (λ c κs. search rules)
-    (λ c κs. search rules)
-    returns)
