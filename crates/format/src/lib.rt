@@ -16,14 +16,14 @@ pub enum Release {
 }
 
 // A stretch of the file: its first byte and how many there are. The empty one is 0, 0.
-#[derive(Drop)]
+#[derive(Clone, Copy)]
 pub struct Span {
     pub start: u64,
     pub length: u64,
 }
 
 // The dimensions of a valid-pixel mask: columns, rows, bytes a line.
-#[derive(Drop)]
+#[derive(Clone, Copy)]
 pub struct MaskShape {
     pub width: u64,
     pub height: u64,
@@ -46,14 +46,14 @@ pub struct Chunk {
 }
 
 // A tile's mask, or none: the place of its chunk's header in the file and its dimensions.
-#[derive(Drop)]
+#[derive(Clone, Copy)]
 pub enum TileMask {
     Unmasked,
     Masked { place: u64, shape: MaskShape },
 }
 
 // A dimension of a plane, X or Y, of an entry.
-#[derive(Drop)]
+#[derive(Clone, Copy)]
 pub struct Extent {
     pub start: i32,
     pub size: u64,
@@ -61,14 +61,14 @@ pub struct Extent {
 }
 
 // A tile's place above others: the Start of its M, if it has one.
-#[derive(Drop)]
+#[derive(Clone, Copy)]
 pub enum MIndex {
     NoM,
     M(i32),
 }
 
 // The layers of a tile, several planes in one sub-block: their letter, its Start, and how many there are. All 0 where the tile has none.
-#[derive(Drop)]
+#[derive(Clone, Copy)]
 pub struct Layers {
     pub letter: u64,
     pub start: i32,
@@ -76,7 +76,7 @@ pub struct Layers {
 }
 
 // The tile record: what an entry of the sub-block directory and its sub-block say, under a release.
-#[derive(Drop)]
+#[derive(Clone, Copy)]
 pub struct Tile {
     pub entry: u64,
     pub place: u64,
@@ -95,7 +95,7 @@ pub struct Tile {
 }
 
 // The dimension record of an entry. StartCoordinate is there as a float and as its 32 bits, unchanged.
-#[derive(Drop)]
+#[derive(Clone, Copy)]
 pub struct Dimension {
     pub letter: u64,
     pub start: i32,

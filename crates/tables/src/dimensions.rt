@@ -35,9 +35,9 @@ fn put_dimension(s: &[u8], k: u64, e: u64, j: u64, r: u64, numbers: &mut [u64], 
     ensures { DimensionPut s.now k j r numbers.old starts.old numbers.new starts.new }
 {
     let d = entries::dimension_at(s, entries::dimension_place(e, j));
-    let row = dimension_numbers(k, &d);
+    let row = dimension_numbers(k, d);
     put_numbers(numbers, (5 * r) as usize, &row);
-    let from = dimension_starts(&d);
+    let from = dimension_starts(d);
     put_starts(starts, r as usize, &from);
 }
 

@@ -24,26 +24,23 @@ pub struct MaskNumbers {
 // ---- the tile record
 
 // A tile's M as numbers.
-fn m_index_numbers(m: &MIndex) -> MIndexNumbers
-    ensures { result ≡ m_index_numbers m.now }
+fn m_index_numbers(m: MIndex) -> MIndexNumbers
+    ensures { result ≡ m_index_numbers m }
 {
     match m {
-        MIndex::M(start) => MIndexNumbers {
-            some: 1,
-            start: *start,
-        },
+        MIndex::M(start) => MIndexNumbers { some: 1, start },
         MIndex::NoM => MIndexNumbers { some: 0, start: 0 },
     }
 }
 
 // A tile's mask as numbers.
-fn mask_numbers(m: &TileMask) -> MaskNumbers
-    ensures { result ≡ mask_numbers m.now }
+fn mask_numbers(m: TileMask) -> MaskNumbers
+    ensures { result ≡ mask_numbers m }
 {
     match m {
         TileMask::Masked { place, shape } => MaskNumbers {
             some: 1,
-            place: *place,
+            place,
             width: shape.width,
             height: shape.height,
             stride: shape.stride,
@@ -59,17 +56,19 @@ fn mask_numbers(m: &TileMask) -> MaskNumbers
 }
 
 // The record's numbers.
-pub fn tile_numbers(t: &Tile) -> [u64; 24]
-    ensures { result ≡ tile_numbers t.now }
+pub fn tile_numbers(t: Tile) -> [u64; 24]
+    ensures { result ≡ tile_numbers t }
 {
-    let x = &t.x;
-    let y = &t.y;
-    let metadata = &t.metadata;
-    let pixels = &t.pixels;
-    let attachment = &t.attachment;
-    let index = m_index_numbers(&t.m);
-    let mask = mask_numbers(&t.mask);
-    let layers = &t.layers;
+    let x = t.x;
+    let y = t.y;
+    let metadata = t.metadata;
+    let pixels = t.pixels;
+    let attachment = t.attachment;
+    let m = t.m;
+    let index = m_index_numbers(m);
+    let k = t.mask;
+    let mask = mask_numbers(k);
+    let layers = t.layers;
     [
         t.entry,
         t.place,
@@ -99,28 +98,29 @@ pub fn tile_numbers(t: &Tile) -> [u64; 24]
 }
 
 // Its signed numbers: where X, Y, M and the layers start.
-pub fn tile_starts(t: &Tile) -> [i32; 4]
-    ensures { result ≡ tile_starts t.now }
+pub fn tile_starts(t: Tile) -> [i32; 4]
+    ensures { result ≡ tile_starts t }
 {
-    let x = &t.x;
-    let y = &t.y;
-    let index = m_index_numbers(&t.m);
-    let layers = &t.layers;
+    let x = t.x;
+    let y = t.y;
+    let m = t.m;
+    let index = m_index_numbers(m);
+    let layers = t.layers;
     [x.start, y.start, index.start, layers.start]
 }
 
 // ---- the dimension record of a dimension of entry n
 
 // Its numbers: StartCoordinate by its 32 bits.
-pub fn dimension_numbers(n: u64, d: &Dimension) -> [u64; 5]
-    ensures { result ≡ dimension_numbers n d.now }
+pub fn dimension_numbers(n: u64, d: Dimension) -> [u64; 5]
+    ensures { result ≡ dimension_numbers n d }
 {
     [n, d.letter, d.size, d.coordinate_bits as u64, d.stored]
 }
 
 // Its signed number: where it starts.
-pub fn dimension_starts(d: &Dimension) -> [i32; 1]
-    ensures { result ≡ dimension_starts d.now }
+pub fn dimension_starts(d: Dimension) -> [i32; 1]
+    ensures { result ≡ dimension_starts d }
 {
     let start = d.start;
     [start]

@@ -45,18 +45,18 @@ fn tile_of(s: &[u8], release: Release, k: u64, e: u64) -> Tile
 }
 
 // Puts a record's numbers into row k.
-fn put_tile_numbers(t: &Tile, k: u64, numbers: &mut [u64])
+fn put_tile_numbers(t: Tile, k: u64, numbers: &mut [u64])
     requires { (k < 4096) × (24 * (k + 1) ≤ length numbers.old) }
-    ensures { Stretch 0 (24 * k) 24 (tile_numbers t.now) numbers.old numbers.new }
+    ensures { Stretch 0 (24 * k) 24 (tile_numbers t) numbers.old numbers.new }
 {
     let row = tile_numbers(t);
     put_numbers(numbers, (24 * k) as usize, &row);
 }
 
 // Puts its signed numbers into row k.
-fn put_tile_starts(t: &Tile, k: u64, starts: &mut [i32])
+fn put_tile_starts(t: Tile, k: u64, starts: &mut [i32])
     requires { (k < 4096) × (4 * (k + 1) ≤ length starts.old) }
-    ensures { Stretch (pos 0) (4 * k) 4 (tile_starts t.now) starts.old starts.new }
+    ensures { Stretch (pos 0) (4 * k) 4 (tile_starts t) starts.old starts.new }
 {
     let row = tile_starts(t);
     put_starts(starts, (4 * k) as usize, &row);
@@ -69,8 +69,8 @@ fn put_tile(s: &[u8], release: Release, k: u64, e: u64, numbers: &mut [u64], sta
     ensures { TilePut (scan_of s.now release) k numbers.old starts.old numbers.new starts.new }
 {
     let t = tile_of(s, release, k, e);
-    put_tile_numbers(&t, k, numbers);
-    put_tile_starts(&t, k, starts);
+    put_tile_numbers(t, k, numbers);
+    put_tile_starts(t, k, starts);
 }
 
 // Puts the records of the n tiles of an accepted file.

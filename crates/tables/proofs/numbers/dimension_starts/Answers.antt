@@ -6,4 +6,4 @@ use Rattle.tables.proofs.numbers.dimension_starts.Goals as goal
 
 pub returns : goal.returns
 unfolding dimension_starts
-returns c = rw (read_back c.args.d.now.start (omega arith))
+returns c = rw (read_back c.args.d.start (omega arith))

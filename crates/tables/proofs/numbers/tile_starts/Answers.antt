@@ -8,9 +8,9 @@ pub returns : goal.returns
 unfolding tile_starts
 returns c =
     rw (
-      read_back c.args.t.now.x.start (omega arith),
-      read_back c.args.t.now.y.start (omega arith),
+      read_back c.args.t.x.start (omega arith),
+      read_back c.args.t.y.start (omega arith),
       read_back c.m_index_numbers-index.result.start (omega arith),
-      read_back c.args.t.now.layers.start (omega arith),
+      read_back c.args.t.layers.start (omega arith),
       c.m_index_numbers-index.ensures,
     )
