@@ -124,7 +124,8 @@ def entries(log):
         under = None
         # an answer, an invariant or a law that was refused
         if match := re.match(r"(?:\S*/)?proofs/(\S+?)\.antt:\d+:\d+: error: `([^`]+)`: (.*)", line):
-            under = [re.sub(r"/(Answers|Invariants|Proof)$", "", match[1]), match[2], match[3]]
+            # (the proof of a function that calls itself stands in +NAME)
+            under = [re.sub(r"/(Answers|Invariants|Proof)$", "", match[1]).replace("+", ""), match[2], match[3]]
             found.append(under)
         # a goal that no answer was written for, and that `search` did not prove: the line of its function follows
         elif goals := unproved(line):

@@ -73,7 +73,7 @@ def renamed(crate, log):
     for folder, goals in lost.items():
         texts = [path.read_text() for path in (G.ROOT / "crates" / crate / "proofs" / folder).glob("*.antt")]
         answered = {name for text in texts for name in re.findall(r"(?m)^(?:abbrev |pub )*(\S+) :", text)}
-        function = folder.split("/")[-1]
+        function = folder.split("/")[-1].removeprefix("+")
         for new in asked.get(function, []), named.get(function, []):
             new = [goal for goal in dict.fromkeys(new) if goal not in answered]
             pairs = [(difflib.SequenceMatcher(None, a, b).ratio(), a, b) for a in dict.fromkeys(goals) for b in new]
@@ -94,7 +94,7 @@ def by_names(text, names):
 def goal_of(guard, names):
     """The guard's goal by the new names."""
     function, goal = guard.at.split()
-    return next((by_names(goal, of) for folder, of in names.items() if folder.split("/")[-1] == function), goal)
+    return next((by_names(goal, of) for folder, of in names.items() if folder.split("/")[-1].removeprefix("+") == function), goal)
 
 
 class Run:
