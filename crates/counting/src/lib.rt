@@ -14,14 +14,14 @@ use format::{Release, Verdict};
 use plane::Rect;
 
 // How many tiles a question selects, and how many of those share a pixel with its window.
-#[derive(Drop)]
+#[derive(Clone, Copy)]
 pub struct ChosenCounts {
     pub selected: u64,
     pub meeting: u64,
 }
 
 // What is answered to a question for them.
-#[derive(Drop)]
+#[derive(Clone, Copy)]
 pub enum ChosenAnswer {
     Found(ChosenCounts),
     Refused { number: u64, place: u64 },

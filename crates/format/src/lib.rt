@@ -2,7 +2,7 @@
 #![tactic(auto)]
 
 // What the rules say of a file or a part of it: accepted, or refused by that number of the refusal table at that byte.
-#[derive(Drop)]
+#[derive(Clone, Copy)]
 pub enum Verdict {
     Accepted,
     Refused { number: u64, place: u64 },
@@ -31,14 +31,14 @@ pub struct MaskShape {
 }
 
 // A chunk's content: a mask, or some other kind, which is skipped.
-#[derive(Drop)]
+#[derive(Clone, Copy)]
 pub enum Content {
     Mask(MaskShape),
     Other,
 }
 
 // A chunk of a container: the place of its header in the file, the length of its payload, and its content.
-#[derive(Drop)]
+#[derive(Clone, Copy)]
 pub struct Chunk {
     pub place: u64,
     pub length: u64,
@@ -106,21 +106,21 @@ pub struct Dimension {
 }
 
 // What is answered to a question for a tile record.
-#[derive(Drop)]
+#[derive(Clone, Copy)]
 pub enum TileAnswer {
     Found(Tile),
     Refused { number: u64, place: u64 },
 }
 
 // What is answered to a question for a dimension record.
-#[derive(Drop)]
+#[derive(Clone, Copy)]
 pub enum DimensionAnswer {
     Found(Dimension),
     Refused { number: u64, place: u64 },
 }
 
 // The attachment record: where its entry and itself stand in the file, and the stretch of its data. GUID, file type and name stand in the entry.
-#[derive(Drop)]
+#[derive(Clone, Copy)]
 pub struct Attachment {
     pub place: u64,
     pub position: u64,
@@ -128,14 +128,14 @@ pub struct Attachment {
 }
 
 // What is answered to a question for an attachment record.
-#[derive(Drop)]
+#[derive(Clone, Copy)]
 pub enum AttachmentAnswer {
     Found(Attachment),
     Refused { number: u64, place: u64 },
 }
 
 // What is answered to a question for a part of the file.
-#[derive(Drop)]
+#[derive(Clone, Copy)]
 pub enum SpanAnswer {
     Found(Span),
     Refused { number: u64, place: u64 },

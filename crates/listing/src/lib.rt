@@ -17,7 +17,7 @@ use format::{Release, Verdict};
 use text::{Text, put_line};
 
 // The box over the tiles that are not pyramid tiles, right and bottom exclusive.
-#[derive(Drop)]
+#[derive(Clone, Copy)]
 pub enum Bounds {
     Nothing,
     Box {
@@ -29,7 +29,7 @@ pub enum Bounds {
 }
 
 // The figures of an accepted file.
-#[derive(Drop)]
+#[derive(Clone, Copy)]
 pub struct Summary {
     pub bytes: u64,
     pub segments: u64,
@@ -39,7 +39,7 @@ pub struct Summary {
 }
 
 // What is answered to a question for a summary.
-#[derive(Drop)]
+#[derive(Clone, Copy)]
 pub enum SummaryAnswer {
     Found(Summary),
     Refused { number: u64, place: u64 },

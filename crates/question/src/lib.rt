@@ -21,7 +21,7 @@ pub struct WindowRequest {
 }
 
 // A composer's answer: the covered count and the store count, or a refusal, whose counts are 0.
-#[derive(Drop)]
+#[derive(Clone, Copy)]
 pub enum Composed {
     Done { covered: u64, stored: u64 },
     Refused { number: u64, place: u64 },

@@ -25,7 +25,7 @@ pub struct QuoteRequest {
 }
 
 // The answer: the covered count and the length of the sheet's text, or a refusal, whose figures are 0.
-#[derive(Drop)]
+#[derive(Clone, Copy)]
 pub enum Quoted {
     Done { covered: u64, length: u64 },
     Refused { number: u64, place: u64 },

@@ -15,7 +15,7 @@ pub mod sizes;
 pub mod write;
 
 // The answer: how long the new file is, or a refusal.
-#[derive(Drop)]
+#[derive(Clone, Copy)]
 pub enum RepackAnswer {
     Done { length: u64 },
     Refused { number: u64, place: u64 },

@@ -1,0 +1,5 @@
+-- `czi::figures::summary_verdict` meets its contract.
+use Rattle.czi.proofs.figures.summary_verdict.Goals as goal
+
+pub returns-in-Refused : goal.returns-in-Refused
+returns-in-Refused c = rw c.a-1.given.1

@@ -1,0 +1,6 @@
+-- `czi::verdict::number_of` meets its contract.
+use native.Mathlib.Omega.{arith}
+use Rattle.czi.proofs.verdict.number_of.Goals as goal
+
+pub overflow_cast-result : goal.overflow_cast-result
+overflow_cast-result c = let h = rw c.v-1.given.1 at c.requires in omega arith

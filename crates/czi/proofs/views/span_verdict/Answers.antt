@@ -1,0 +1,5 @@
+-- `czi::views::span_verdict` meets its contract.
+use Rattle.czi.proofs.views.span_verdict.Goals as goal
+
+pub returns-in-Refused : goal.returns-in-Refused
+returns-in-Refused c = rw c.a-1.given.1
