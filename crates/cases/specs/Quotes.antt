@@ -1,5 +1,5 @@
 -- Worked cases of a quote (paper 02, Req 09), each a list under one claim: which settings texts say what, what a sheet says, and whole quotes of P8's tile.
-use Rattle.std.specs.Prelude.{ℕ, zero, suc, ◌+◌, ◌%◌, ◌/◌, ◌≡◌, refl, List, [], ◌∷◌, ◌++◌, Bool, true, false, cond, length, replicate, take, drop, eqb, ℤ, pos, negsuc}
+use Rattle.std.specs.Prelude.{ℕ, ◌≡◌, refl, List, [], ◌∷◌, ◌++◌, false, cond, replicate, eqb, pos}
 use Rattle.std.proofs.Math.Option.{Option-elim}
 use Rattle.format.specs.Scan.{scan_of}
 use Rattle.format.specs.Bytes.{any_of, any_below, all_below, least_below, u32_at, u64_at, biased, same_at, same_range, part_of}
@@ -17,10 +17,8 @@ use Rattle.format.specs.Masks.{has_chunks, chunk_size, next_chunk, chunk_bad, is
 use Rattle.format.specs.Directory.{entry_count, room_end, tile_count, entry_place, directory_bad, head_rows, tile_rows, sub_block_rows, attachment_rows, entry_rows, directory_rows}
 use Rattle.format.specs.Attachments.{metadata_rows, attachments_rows}
 use Rattle.format.specs.Rules.{checks, verdict}
-use Rattle.format.specs.declared.Release.{Release}
-use Rattle.format.specs.declared.Release.TheVariants.{R102, R12}
-use Rattle.format.specs.declared.Verdict.{Verdict}
-use Rattle.format.specs.declared.Verdict.TheVariants.{Accepted, Refused}
+use Rattle.format.specs.declared.Release.TheVariants.{R12}
+use Rattle.format.specs.declared.Verdict.TheVariants.{Refused}
 use Rattle.format.specs.Entry.{is_pyramid}
 use Rattle.format.specs.Records.{mask_of}
 use Rattle.format.specs.Masks.{mask_from, mask_shape}
@@ -32,7 +30,7 @@ use Rattle.plane.specs.Tiles.{covers}
 use Rattle.selection.specs.Select.{tile_start, free, start_count, has_start, selects}
 use Rattle.tiles.specs.FileTile.{rank_of, rectangle, meets, entry_tile, file_tile, tiles_below}
 use Rattle.question.specs.Question.{window_bad, pixel_bad, lent_bad, ask_rows, type_bad, agree_rows}
-use Rattle.question.specs.Call.{Asked, call_verdict, selected, target_after, map_after}
+use Rattle.question.specs.Call.{call_verdict, selected, target_after, map_after}
 use Rattle.text.specs.Text.{digits, decimal, line}
 use Rattle.question.specs.Call.{lending_verdict, answer}
 use Rattle.question.specs.declared.Masks.{Masks}

@@ -1,5 +1,5 @@
 -- Worked cases of a repack (paper 02, Req 04): whole new files in bytes, the refusals in their order, and a second repack.
-use Rattle.std.specs.Prelude.{ℕ, zero, suc, ◌+◌, ◌*◌, ◌-◌, ◌%◌, ◌/◌, ◌≡◌, refl, List, [], ◌∷◌, ◌++◌, Bool, true, false, cond, length, replicate, take, drop}
+use Rattle.std.specs.Prelude.{ℕ, ◌-◌, ◌≡◌, refl, List, [], ◌∷◌, ◌++◌, length, replicate}
 use Rattle.std.proofs.Math.Option.{Option-elim}
 use Rattle.format.specs.Scan.{scan_of}
 use Rattle.format.specs.Bytes.{any_of, any_below, all_below, least_below, u32_at, u64_at, biased, same_at, same_range, part_of}
@@ -17,18 +17,17 @@ use Rattle.format.specs.Directory.{entry_count, room_end, tile_count, entry_plac
 use Rattle.format.specs.Attachments.{xml_size, xml_attachment_size, metadata_bad, metadata_rows, attachment_entry_count, attachment_entry, attachment_directory_bad, attachment_count, attachment_position, attachment_part, attachment_entry_bad}
 use Rattle.format.specs.Attachments.{attachment_data_size, attachment_bad, attachment_data_bad, attachment_entry_rows, attachment_directory_rows, attachments_rows}
 use Rattle.format.specs.Rules.{checks, verdict}
-use Rattle.format.specs.declared.Release.{Release}
-use Rattle.format.specs.declared.Release.TheVariants.{R102, R12}
+use Rattle.format.specs.declared.Release.TheVariants.{R12}
 use Rattle.format.specs.declared.Verdict.{Verdict}
 use Rattle.format.specs.declared.Verdict.TheVariants.{Accepted, Refused}
-use Rattle.pack.specs.Pack.{bytes_of, zeros, allocated, segment_size, header, segment_bytes, packed, each, joined, places_from}
+use Rattle.pack.specs.Pack.{bytes_of, zeros, allocated, segment_size, header, segment_bytes, packed, each, joined}
 use Rattle.repacked.specs.Contents.{file_content, moved_entry, directory_content, parts_size, sub_block_content, metadata_content, moved_attachment_entry, attachment_directory_content, attachment_content}
 use Rattle.repacked.specs.NewFile.{entry_size, entries_size, directory_size, sub_block_size, metadata_content_size, attachment_directory_size, attachment_content_size, new_directory, new_block, new_metadata, new_attachment_directory, new_attachment, new_end, new_entry, new_attachment_entry}
 use Rattle.repacked.specs.NewFile.{directory_segment, block_segment, metadata_segment, attachment_directory_segment, attachment_segment, annex_segments, new_segments, repacked}
 use Rattle.repacked.specs.NewFile as New
 use Rattle.repacked.specs.Refusals.{too_large, size_verdict, repack_verdict}
 use Rattle.cases.specs.Written.{bytes}
-use Rattle.cases.specs.Cases.{little, segment, file_segment, file288, element, container_section, dimension1, entry1, file19, dimension_of, entry_of}
+use Rattle.cases.specs.Cases.{little, segment, file_segment, file288, element, container_section, dimension1, entry1, file19}
 
 -- ---- the new file of the 288-byte file, whole in bytes: the file segment of 544, the directory of 160
 

@@ -22,7 +22,7 @@ use Rattle.format.specs.declared.Release.TheVariants.{R12}
 use Rattle.entries.proofs.ReadBack.{read_back}
 use Rattle.judge.proofs.AcceptedFile.{tiled-file}
 use Rattle.judge.proofs.EntryLoop.{AtEntry, at-start, at_next}
-use Rattle.plane.specs.Sums.{one, sum, count}
+use Rattle.plane.specs.Sums.{one, sum}
 use Rattle.plane.specs.declared.Rect.{Rect}
 use Rattle.plane.proofs.Tests.{ltb_next}
 use Rattle.plane.proofs.SumLaws.{count-le, tab-ext, tab-set, tab-getD, length-tab}

@@ -1,5 +1,4 @@
 -- `counting::mark_all` meets its contract.
-use Prim.Native.Nat.{◌-◌}
 use native.Mathlib.Omega.{arith}
 use borrow.Author.Rules.{rules}
 use Rattle.judge.proofs.AcceptedFile.{accepted-long, accepted-entries}

@@ -2,4 +2,4 @@
 use Rattle.czi.proofs.chosen.chosen_counts.Goals as goal
 
 pub returns-in-Refused : goal.returns-in-Refused
-returns-in-Refused c = rw c.enum_told-1.given.1
+returns-in-Refused c = rw c.in-Refused.is

@@ -9,8 +9,7 @@ number_of-requires c = search (summary-low, verdict-low)
 
 pub returns : goal.returns
 returns c =
-    let k = c in
     let z = c.struct_told-1.given in
-    rw (← k.release_of.ensures)
-    (summary-out c.number_of_lem.ensures c.place_of.ensures k.summarize-a.ensures c.summary_verdict-v.ensures
+    rw (← c.release_of.ensures)
+    (summary-out c.number_of.ensures c.place_of.ensures c.summarize-a.ensures c.summary_verdict-v.ensures
     c.summary_in-s.ensures c.box_numbers-b.ensures (search (read_back, z)) (search (read_back, z)) (search (read_back, z)) (search (read_back, z)))

@@ -3,4 +3,4 @@ use native.Mathlib.Omega.{arith}
 use Rattle.czi.proofs.quotes.quoted_number.Goals as goal
 
 pub overflow_cast-result : goal.overflow_cast-result
-overflow_cast-result c = let h = rw c.q-1.given.1 at c.requires in omega arith
+overflow_cast-result c = let h = rw c.in-Refused.is at c.requires in omega arith

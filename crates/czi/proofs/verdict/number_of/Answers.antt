@@ -3,4 +3,4 @@ use native.Mathlib.Omega.{arith}
 use Rattle.czi.proofs.verdict.number_of.Goals as goal
 
 pub overflow_cast-result : goal.overflow_cast-result
-overflow_cast-result c = let h = rw c.v-1.given.1 at c.requires in omega arith
+overflow_cast-result c = let h = rw c.in-Refused.is at c.requires in omega arith
