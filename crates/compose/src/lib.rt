@@ -22,7 +22,7 @@ use plane::Rect;
 use question::{Composed, WindowRequest};
 
 // The covered count and the store count of a plane that was painted.
-#[derive(Drop)]
+#[derive(Clone, Copy)]
 pub struct Counts {
     pub covered: u64,
     pub stored: u64,

@@ -12,7 +12,7 @@ use format::Verdict;
 use listing::{Bounds, Summary, SummaryAnswer};
 
 // Whether there is a box, as 1 or 0, and its corners, 0 where there is none.
-#[derive(Drop)]
+#[derive(Clone, Copy)]
 pub struct BoxNumbers {
     pub some: u64,
     pub left: i32,

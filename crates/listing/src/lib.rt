@@ -46,7 +46,7 @@ pub enum SummaryAnswer {
 }
 
 // The box while it grows: whether there is a tile in it, and its corners plus 2^31.
-#[derive(Drop)]
+#[derive(Clone, Copy)]
 pub struct Corners {
     pub some: bool,
     pub left: u64,
@@ -56,7 +56,7 @@ pub struct Corners {
 }
 
 // The figures with those corners.
-#[derive(Drop)]
+#[derive(Clone, Copy)]
 pub struct Figures {
     pub bytes: u64,
     pub segments: u64,

@@ -7,7 +7,7 @@ pub mod section;
 pub mod stretches;
 
 // An item by its places: where a tag's name begins, how long it is, and where the next item begins. Broken: the bytes don't read.
-#[derive(Drop)]
+#[derive(Clone, Copy)]
 pub enum Token {
     Broken,
     Start { from: u64, length: u64, next: u64 },

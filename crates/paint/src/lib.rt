@@ -17,7 +17,7 @@ pub struct Row {
 }
 
 // The pixel behind a step's last, and how many pixels the step gave.
-#[derive(Drop)]
+#[derive(Clone, Copy)]
 pub struct Step {
     pub next: usize,
     pub given: usize,

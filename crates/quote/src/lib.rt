@@ -15,7 +15,7 @@ use settings::{Settings, SettingsAnswer};
 use text::Text;
 
 // The question but for its starts, its scene, the background and the masks choice, which the settings make: the asked pixel type and the window.
-#[derive(Drop)]
+#[derive(Clone, Copy)]
 pub struct QuoteRequest {
     pub pixel_type: u64,
     pub left: i32,

@@ -16,7 +16,7 @@ use format::Verdict;
 pub mod file;
 
 // The verdict on the segments, with their number: 0 where they are refused.
-#[derive(Drop)]
+#[derive(Clone, Copy)]
 pub struct Walked {
     pub verdict: Verdict,
     pub count: u64,

@@ -30,7 +30,7 @@ pub struct Settings {
 }
 
 // The settings that bytes are, or the refusal.
-#[derive(Drop)]
+#[derive(Clone, Copy)]
 pub enum SettingsAnswer {
     Found(Settings),
     Refused { number: u64, place: u64 },

@@ -5,14 +5,14 @@ ghost use Rattle.tables.specs.Numbers.{m_index_numbers, mask_numbers, tile_numbe
 use format::{Dimension, MIndex, Tile, TileMask};
 
 // Whether a tile has an M, as 1 or 0, and where it starts, 0 where there is none.
-#[derive(Drop)]
+#[derive(Clone, Copy)]
 pub struct MIndexNumbers {
     pub some: u64,
     pub start: i32,
 }
 
 // Whether a tile has a mask, as 1 or 0, the place of its chunk's header and its dimensions, 0 where there is none.
-#[derive(Drop)]
+#[derive(Clone, Copy)]
 pub struct MaskNumbers {
     pub some: u64,
     pub place: u64,

@@ -15,7 +15,7 @@ use crate::rows::{put_numbers, put_starts};
 use format::{Release, Tile, Verdict};
 
 // What became of filling lent arrays: the verdict, and how many rows were filled, 0 where it refuses.
-#[derive(Drop)]
+#[derive(Clone, Copy)]
 pub struct Table {
     pub verdict: Verdict,
     pub rows: u64,

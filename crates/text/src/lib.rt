@@ -5,7 +5,7 @@ ghost use Rattle.std.specs.Prelude.{◌≡◌, [], ◌∷◌, ◌+◌, ◌^◌, 
 ghost use Rattle.text.specs.Text.{digits, decimal, signed_decimal, line, text_of, Clean, Appended};
 
 // A text: its length, and its bytes, which are 0 from there on.
-#[derive(Drop)]
+#[derive(Clone, Copy)]
 pub struct Text {
     pub bytes: [u8; 192],
     pub length: usize,

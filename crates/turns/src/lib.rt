@@ -17,7 +17,7 @@ pub struct Mask {
 }
 
 // The part of the plane where a window and a tile meet; right and bottom are exclusive.
-#[derive(Drop)]
+#[derive(Clone, Copy)]
 pub struct Clip {
     pub left: usize,
     pub right: usize,
@@ -26,7 +26,7 @@ pub struct Clip {
 }
 
 // A line of a mask: its first byte among the lines, and how many columns it has.
-#[derive(Drop)]
+#[derive(Clone, Copy)]
 pub struct MaskLine {
     pub start: usize,
     pub width: usize,
