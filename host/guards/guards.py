@@ -40,6 +40,7 @@ VOID = (
     "no occurrence",
     "`rw`: no part of",
     "explicit arguments more than",
+    "is already declared",
 )
 # What the prover says where it has numbers at which everything known holds and the goal does not.
 NUMBERS = (

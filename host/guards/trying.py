@@ -82,7 +82,12 @@ def renamed(crate, log):
                     goals, new = [it for it in goals if it != old], [it for it in new if it != goal]
                     a, b = part_that_differs(old, goal)
                     found.setdefault(folder, {})[a] = b
-    return found
+    # Two old parts that would get one new part: which of them it belongs to isn't known, so neither follows.
+    for names in found.values():
+        for new in [new for new in set(names.values()) if list(names.values()).count(new) > 1]:
+            for old in [old for old in names if names[old] == new]:
+                del names[old]
+    return {folder: names for folder, names in found.items() if names}
 
 
 def by_names(text, names):
