@@ -6,7 +6,7 @@ ghost use Rattle.format.specs.Bytes.{shifted};
 ghost use Rattle.format.specs.Checks.{first};
 ghost use Rattle.question.specs.Question.{masks_on, request_window, window_bad, pixel_bad, lent_bad, ask_rows};
 
-use format::Verdict;
+use format::{Fault, Refusal, Verdict};
 use plane::Rect;
 use question::{Masks, WindowRequest};
 
@@ -14,27 +14,7 @@ use question::{Masks, WindowRequest};
 pub fn masks_on(m: Masks) -> bool
     ensures { result ≡ masks_on m }
 {
-    match m {
-        Masks::NotChosen => false,
-        Masks::On => true,
-        Masks::Off => false,
-    }
-}
-
-// The window's left edge in plane coordinates: the signed one plus 2^31.
-fn left_of(f: WindowRequest) -> u64
-    ensures { (result ≡ shifted f.left) × (result < 2 ^ 32) }
-{
-    let left = f.left;
-    fields::shifted_of(left)
-}
-
-// Its top edge.
-fn top_of(f: WindowRequest) -> u64
-    ensures { (result ≡ shifted f.top) × (result < 2 ^ 32) }
-{
-    let top = f.top;
-    fields::shifted_of(top)
+    matches!(m, Masks::On)
 }
 
 // The window in plane coordinates.
@@ -42,13 +22,11 @@ pub fn window_of(f: WindowRequest) -> Rect
     requires { (f.width ≤ 65536) × (f.height ≤ 65536) }
     ensures { result ≡ request_window f }
 {
-    let width = f.width;
-    let height = f.height;
     Rect {
-        left: left_of(f) as usize,
-        top: top_of(f) as usize,
-        width: width as usize,
-        height: height as usize,
+        left: fields::shifted_of(f.left) as usize,
+        top: fields::shifted_of(f.top) as usize,
+        width: f.width as usize,
+        height: f.height as usize,
     }
 }
 
@@ -57,27 +35,12 @@ pub fn window_of(f: WindowRequest) -> Rect
 fn window_bad(f: WindowRequest) -> bool
     ensures { result ≡ window_bad (request_window f) }
 {
-    let width = f.width;
-    if width == 0 {
+    // (two steps, since the proof of one chain of six tests does not close)
+    if f.width == 0 || 65536 < f.width || f.height == 0 || 65536 < f.height {
         return true;
     }
-    if 65536 < width {
-        return true;
-    }
-    let height = f.height;
-    if height == 0 {
-        return true;
-    }
-    if 65536 < height {
-        return true;
-    }
-    if 4294967295 < left_of(f) + width {
-        return true;
-    }
-    if 4294967295 < top_of(f) + height {
-        return true;
-    }
-    false
+    0xFFFF_FFFF < fields::shifted_of(f.left) + f.width
+        || 0xFFFF_FFFF < fields::shifted_of(f.top) + f.height
 }
 
 // Refusal 21.
@@ -86,55 +49,41 @@ fn pixel_bad(t: u64, background: &[u8]) -> bool
     ensures { result ≡ pixel_bad t background.now }
 {
     let bytes = entries::pixel_bytes(t);
-    if bytes == 0 {
-        return true;
-    }
-    if background.len() as u64 != bytes {
-        return true;
-    }
-    false
+    bytes == 0 || background.len() as u64 != bytes
 }
 
 // Refusal 22, of a window whose sides are right.
+#[tactic(auto, using(format::proofs::Flags::flags), unfolding(question::specs::Question::lent_bad))]
 fn lent_bad(f: WindowRequest, target: u64, map: u64) -> bool
     requires { window_bad (request_window f) ≡ false }
     ensures { result ≡ lent_bad (request_window f) f.pixel_type target map }
 {
-    let width = f.width;
-    let height = f.height;
-    let pixel_type = f.pixel_type;
-    let area = height * width;
-    if target < area * entries::pixel_bytes(pixel_type) {
-        return true;
-    }
-    if map < (area + 7) / 8 {
-        return true;
-    }
-    false
+    let area = f.height * f.width;
+    target < area * entries::pixel_bytes(f.pixel_type) || map < area.div_ceil(8)
 }
 
 // The refusals 20, 21, 22, of a target and a map of these lengths.
+#[tactic(auto, using(format::proofs::Flags::flags), unfolding(question::specs::Question::ask_rows))]
 pub fn ask(f: WindowRequest, background: &[u8], target: u64, map: u64) -> Verdict
     ensures { result ≡ first (ask_rows f background.now target map) }
 {
     if window_bad(f) {
-        return Verdict::Refused {
-            number: 20,
+        return Err(Refusal {
+            fault: Fault::Window,
             place: 0,
-        };
+        });
     }
-    let pixel_type = f.pixel_type;
-    if pixel_bad(pixel_type, background) {
-        return Verdict::Refused {
-            number: 21,
+    if pixel_bad(f.pixel_type, background) {
+        return Err(Refusal {
+            fault: Fault::AskedPixel,
             place: 0,
-        };
+        });
     }
     if lent_bad(f, target, map) {
-        return Verdict::Refused {
-            number: 22,
+        return Err(Refusal {
+            fault: Fault::LentTooShort,
             place: 0,
-        };
+        });
     }
-    Verdict::Accepted
+    Ok(())
 }

@@ -7,12 +7,12 @@ use mathlib.Core.Bool.{Bool, true, false, cond, not}
 use native.Mathlib.Omega.{arith}
 use lib.ListN.{length}
 use borrow.Author.Tests.{lt-ltb, ltb-false}
-use Rattle.format.specs.Checks.{Check, first, rows_below}
+use Rattle.std.specs.Prelude.{Err}
+use Rattle.format.specs.Checks.{Verdict, Accepted, Check, first, rows_below}
 use Rattle.format.specs.Segments.{room, RoomIn, walked_as}
 use Rattle.format.specs.Attachments.{metadata_bad, xml_size, xml_attachment_size, attachment_directory_bad, attachment_entry_count, attachment_entry}
 use Rattle.format.specs.Attachments.{attachment_bad, attachment_entry_rows}
-use Rattle.format.specs.declared.Verdict.{Verdict}
-use Rattle.format.specs.declared.Verdict.TheVariants.{Accepted, Refused}
+use Rattle.format.specs.declared.Refusal.{Refusal}
 use Rattle.format.proofs.Below.{none}
 use Rattle.format.proofs.Firsts.{rows-zero, rows_more, rows-stop}
 use Rattle.format.proofs.SegmentLaws.{walked-room}
@@ -68,8 +68,8 @@ module _ (bs : List ℕ) (t n k : ℕ) (i : Entries bs t n k) where
     pub entries_next : v ≡ Accepted → Entries bs t n (k + 1)
     entries_next a = record { count = omega arith; accepted = rows_more k _ i.accepted (rw (← j) (sym f ∙ a)) }
 
-    pub entries-stop : (m p : ℕ) → v ≡ Refused m p → Refused m p ≡ first (rows_below n (λ i. attachment_entry_rows bs (attachment_entry t i)))
-    entries-stop m p a = sym (rows-stop n k _ m p l i.accepted (rw (← j) (sym f ∙ a)))
+    pub entries-stop : (r : Refusal) → v ≡ Err r → Err r ≡ first (rows_below n (λ i. attachment_entry_rows bs (attachment_entry t i)))
+    entries-stop r a = sym (rows-stop n k _ r l i.accepted (rw (← j) (sym f ∙ a)))
 
   pub entries-end : n ≤ k → Accepted ≡ first (rows_below n (λ i. attachment_entry_rows bs (attachment_entry t i)))
   entries-end h = let e : k ≡ n = omega (arith, i.count) in sym (rw e at i.accepted)

@@ -12,9 +12,10 @@ ghost use Rattle.format.specs.Attachments.{attachment_directory_bad};
 ghost use Rattle.format.specs.Attachments.{attachment_guid, attachment_type, attachment_name};
 ghost use Rattle.format.specs.Attachments.{attachment_position, attachment_part, attachment_data_size, attachment_entry_bad, attachment_bad};
 ghost use Rattle.format.specs.Attachments.{attachment_data_bad, attachment_entry_rows, attachments_rows};
-ghost use Rattle.segments.specs.Walk.{WalkTable};
 
-use format::Verdict;
+use format::{Fault, Refusal, Verdict};
+use segments::kinds::Kind;
+use segments::walked::Walk;
 
 // ---- the metadata segment
 
@@ -65,15 +66,15 @@ pub fn judge_metadata(s: &[u8]) -> Verdict
 {
     let m = segments::file::metadata_position(s);
     if m == 0 {
-        return Verdict::Accepted;
+        return Ok(());
     }
     if metadata_bad(s, m) {
-        return Verdict::Refused {
-            number: 10,
+        return Err(Refusal {
+            fault: Fault::Directory,
             place: m,
-        };
+        });
     }
-    Verdict::Accepted
+    Ok(())
 }
 
 // ---- the attachment directory
@@ -177,14 +178,7 @@ fn has_zero(s: &[u8], p: u64) -> bool
     requires { p + 80 ≤ length s.now }
     ensures { result ≡ any_below 80 (λ i. eqb (get_or s.now (p + i) 0) 0) }
 {
-    let mut i: u64 = 0;
-    while i < 80 {
-        if fields::byte_at(s, p + i) == 0 {
-            return true;
-        }
-        i += 1;
-    }
-    false
+    (0..80).any(|i| fields::byte_at(s, p + i) == 0)
 }
 
 // Refusal 11 of an entry A1.
@@ -231,82 +225,72 @@ fn attachment_data_bad(s: &[u8], q: u64) -> bool
 }
 
 // An entry A1 at e and its attachment: 11, 7, 14, 15, 16.
-fn judge_attachment_entry(s: &[u8], table: &[u64; 8192], count: usize, e: u64) -> Verdict
-    requires walk_table { WalkTable s.now table.now count }
-    requires e_in_bounds { e + 128 ≤ length s.now }
-    ensures { result ≡ first (attachment_entry_rows s.now e) }
+fn judge_attachment_entry(walk: &Walk, e: u64) -> Verdict
+    requires { e + 128 ≤ length walk.now.file.now }
+    ensures { result ≡ first (attachment_entry_rows walk.now.file.now e) }
 {
+    let s = walk.file;
     if attachment_entry_bad(s, e) {
-        return Verdict::Refused {
-            number: 11,
+        return Err(Refusal {
+            fault: Fault::Entry,
             place: e,
-        };
+        });
     }
     if attachment_part(s, e) != 0 {
-        return Verdict::Refused {
-            number: 7,
+        return Err(Refusal {
+            fault: Fault::FilePart,
             place: e,
-        };
+        });
     }
     let q = attachment_position(s, e);
-    if !segments::walked_as(s, table, count, q, b"ZISRAWATTACH\0\0\0\0") {
-        return Verdict::Refused {
-            number: 14,
+    if !walk.names(q, Kind::Attachment) {
+        return Err(Refusal {
+            fault: Fault::NamedSegment,
             place: e,
-        };
+        });
     }
     if attachment_bad(s, e, s, q) {
-        return Verdict::Refused {
-            number: 15,
+        return Err(Refusal {
+            fault: Fault::Copy,
             place: q,
-        };
+        });
     }
     if attachment_data_bad(s, q) {
-        return Verdict::Refused {
-            number: 16,
+        return Err(Refusal {
+            fault: Fault::Sizes,
             place: q,
-        };
+        });
     }
-    Verdict::Accepted
+    Ok(())
 }
 
 // The n entries of the attachment directory at t, in order.
-fn judge_attachment_entries(s: &[u8], table: &[u64; 8192], count: usize, t: u64, n: u64) -> Verdict
-    requires walk_table { WalkTable s.now table.now count }
-    requires n_in_bounds { attachment_entry t n ≤ length s.now }
-    ensures { result ≡ first (rows_below n (λ k. attachment_entry_rows s.now (attachment_entry t k))) }
+fn judge_attachment_entries(walk: &Walk, t: u64, n: u64) -> Verdict
+    requires { attachment_entry t n ≤ length walk.now.file.now }
+    ensures { result ≡ first (rows_below n (λ k. attachment_entry_rows walk.now.file.now (attachment_entry t k))) }
 {
-    let mut k: u64 = 0;
-    while k < n {
-        let v = judge_attachment_entry(s, table, count, attachment_entry(t, k));
-        match v {
-            Verdict::Refused { number, place } => {
-                return Verdict::Refused { number, place };
-            }
-            Verdict::Accepted => {
-                k += 1;
-            }
-        }
+    for k in 0..n {
+        judge_attachment_entry(walk, attachment_entry(t, k))?;
     }
-    Verdict::Accepted
+    Ok(())
 }
 
 // The attachment directory, if there is one.
-pub fn judge_attachments(s: &[u8], table: &[u64; 8192], count: usize) -> Verdict
-    requires walk_table { WalkTable s.now table.now count }
-    requires in_bounds { 112 ≤ length s.now }
-    requires room_in { (attachment_directory_position s.now ≡ 0 → ⊥) → RoomIn s.now (attachment_directory_position s.now) }
-    ensures { result ≡ first (attachments_rows s.now) }
+pub fn judge_attachments(walk: &Walk) -> Verdict
+    requires in_bounds { 112 ≤ length walk.now.file.now }
+    requires room_in { (attachment_directory_position walk.now.file.now ≡ 0 → ⊥) → RoomIn walk.now.file.now (attachment_directory_position walk.now.file.now) }
+    ensures { result ≡ first (attachments_rows walk.now.file.now) }
 {
+    let s = walk.file;
     let t = segments::file::attachment_directory_position(s);
     if t == 0 {
-        return Verdict::Accepted;
+        return Ok(());
     }
     if attachment_directory_bad(s, t) {
-        return Verdict::Refused {
-            number: 10,
+        return Err(Refusal {
+            fault: Fault::Directory,
             place: t,
-        };
+        });
     }
-    judge_attachment_entries(s, table, count, t, attachment_entry_count(s, t))
+    judge_attachment_entries(walk, t, attachment_entry_count(s, t))
 }

@@ -9,8 +9,7 @@ pub fn bit_at(s: &[u8], p: usize) -> bool
     requires { p < 8 * length s.now }
     ensures { result ≡ bit s.now p }
 {
-    let x = s[p / 8];
-    (x >> (7 - p % 8)) % 2 == 1
+    (s[p / 8] >> (7 - p % 8)) % 2 == 1
 }
 
 // The byte whose set bits are those from number s up to number t.
@@ -18,7 +17,7 @@ fn ones_between(s: usize, t: usize) -> u8
     requires { (s ≤ t) × (t ≤ 8) }
     ensures { result ≡ pack (λ i. leb s i && ltb i t) }
 {
-    ((255u32 >> s) ^ (255u32 >> t)) as u8
+    ((0xffu32 >> s) ^ (0xff >> t)) as u8
 }
 
 // Sets those bits of byte k that v has set.
@@ -26,7 +25,7 @@ fn or_byte(map: &mut [u8], k: usize, v: u8)
     requires { k < length map.old }
     ensures { map.new ≡ mark (8 * k + 8) (λ q. leb (8 * k) q && bit_in v (q % 8)) map.old }
 {
-    map[k] = map[k] | v;
+    map[k] |= v;
 }
 
 // Sets bit p.
@@ -42,11 +41,9 @@ fn set_part(map: &mut [u8], k: usize, s: usize, t: usize)
     requires { (s ≤ t) × (t ≤ 8) × (8 * k + t ≤ 8 * length map.old) }
     ensures { map.new ≡ mark (8 * k + t) (λ q. leb (8 * k + s) q) map.old }
 {
-    if t == 0 {
-        return;
+    if t > 0 {
+        or_byte(map, k, ones_between(s, t));
     }
-    let v = ones_between(s, t);
-    or_byte(map, k, v);
 }
 
 // Sets every bit of the bytes from number k up to number j. A byte `|` 255 is 255, so the compiler makes one fill of the loop.
@@ -54,10 +51,8 @@ fn set_whole(map: &mut [u8], k: usize, j: usize)
     requires { (k ≤ j) × (j ≤ length map.old) }
     ensures { map.new ≡ mark (8 * j) (λ q. leb (8 * k) q) map.old }
 {
-    let mut i = k;
-    while i < j {
+    for i in k..j {
         set_part(map, i, 0, 8);
-        i += 1;
     }
 }
 
@@ -70,9 +65,9 @@ pub fn set_range(map: &mut [u8], from: usize, to: usize)
     let j = to / 8;
     if k == j {
         set_part(map, k, from % 8, to % 8);
-        return;
+    } else {
+        set_part(map, k, from % 8, 8);
+        set_whole(map, k + 1, j);
+        set_part(map, j, 0, to % 8);
     }
-    set_part(map, k, from % 8, 8);
-    set_whole(map, k + 1, j);
-    set_part(map, j, 0, to % 8);
 }

@@ -1,20 +1,21 @@
 -- A pixel's bytes repeated: what lies whole pixels back is the same.
 use mathlib.Core.Path.{◌≡◌, refl, sym, ap, ◌∙◌}
-use Prim.Native.Nat.{ℕ, ◌+◌, ◌*◌, ◌-◌, ◌/◌, ◌%◌, ◌≤◌}
+use Prim.Native.Nat.{ℕ, ◌+◌, ◌*◌, ◌-◌, ◌/◌, ◌%◌, ◌≤◌, ◌<◌, min}
 use native.Mathlib.Nat.{add_assoc, zero-mul, mul-le-mul_right, one-mul, add-mod_left, mod-lt, mod-eq_of_lt}
 use native.Mathlib.Omega.{arith}
-use mathlib.Core.List.{List}
+use mathlib.Core.List.{List, ◌++◌}
+use borrow.Author.Rules.{rules}
+use Rattle.std.proofs.lemmas.List.{places}
+use Rattle.std.proofs.lemmas.Grind.{common_steps}
 use mathlib.Core.Bool.{true, cond}
 use lib.Dec.{leb}
-use lib.ListN.{length, get_or}
+use lib.ListN.{length, get_or, take, drop}
 use borrow.Author.Tests.{leb-true}
 use Rattle.plane.specs.Paint.{paint}
-use Rattle.plane.proofs.Tests.{cond-case}
-use Rattle.copies.specs.Copied.{copied, moved, block_size}
-use Rattle.copies.proofs.Copies.{by-range, copied-length, copied-in, copied-past}
-use Rattle.copies.proofs.Moves.{moved_length, moved_in, moved-below, moved-past}
+use Rattle.plane.proofs.Tests.{cond-case, by-lt}
+use Rattle.copies.specs.Copied.{block_size}
 use Rattle.blank.specs.Front.{front, Alike}
-use Rattle.blank.proofs.Front.{front-none, front_length, front-in, front-past, front-is, front-fill}
+use Rattle.blank.proofs.Front.{front-none, front_put, front_length, front-in, front-past, front-is, front-fill}
 
 -- ---- periods
 
@@ -42,26 +43,43 @@ period-bytes t b i = ap (λ (j : ℕ). get_or t j 0) (add-mod_left b i)
 repeat-start : (t : List ℕ) (b : ℕ) → t ≡ front (λ i. get_or t (i % b) 0) b t
 repeat-start t b = front-is _ b t t refl (λ i h l. ap (λ (j : ℕ). get_or t j 0) (sym (mod-eq_of_lt l))) (λ i h l. refl)
 
--- the first m bytes copied to where the repetition ends
-repeat-more : (f : ℕ → ℕ) (k m : ℕ) (t : List ℕ) → Period f k → m ≤ k → k + m ≤ length t → moved (front f k t) (front f k t) k 0 m ≡ front f (k + m) t
-repeat-more f k m t p h l =
-    let r = front f k t in
-    let same = front_length f k t in
-    front-is f (k + m) t (moved r r k 0 m) (moved_length r r k 0 m ∙ same)
-    (λ i b q.
-    by-range k (k + m) i (λ x. moved-below r r k 0 m i (rw same b) x ∙ front-in f k t i b x)
-    (λ x y. moved_in r r k 0 m i (rw same b) x y ∙ front-in f k t (0 + (i - k)) (omega arith) (omega arith) ∙ sym (p (0 + (i - k))) ∙ ap f (omega arith))
-    (λ x. absurd (omega arith)))
-    (λ i b q. moved-past r r k 0 m i (rw same b) q ∙ front-past f k t i b (omega arith))
+-- ---- the first n of q's bytes copied to those from number k on
 
--- the first k bytes of t are repeated in r; k and the next step's width w are periods of them
+abbrev Recopied : List ℕ → ℕ → ℕ → List ℕ
+Recopied q k n = take k q ++ (take n (take k q) ++ drop n (drop k q))
+
+module _ (q : List ℕ) (k n : ℕ) (h : n ≤ k) (l : k + n ≤ length q) where
+  recopied-length : length (Recopied q k n) ≡ length q
+  recopied-length = grind (arith, common_steps)
+
+  recopied-below : (i : ℕ) → i < k → get_or (Recopied q k n) i 0 ≡ get_or q i 0
+  recopied-below i u = search (rules, places)
+
+  recopied-in : (i : ℕ) → k ≤ i → i < k + n → get_or (Recopied q k n) i 0 ≡ get_or q (i - k) 0
+  recopied-in i u v = search (rules, places)
+
+  recopied-past : (i : ℕ) → k + n ≤ i → get_or (Recopied q k n) i 0 ≡ get_or q i 0
+  recopied-past i u = search (rules, places)
+
+repeat-more : (f : ℕ → ℕ) (k n : ℕ) (t : List ℕ) → Period f k → n ≤ k → k + n ≤ length t → Recopied (front f k t) k n ≡ front f (k + n) t
+repeat-more f k n t p h l =
+    let q : List ℕ = front f k t in
+    let same : length q ≡ length t = front_length f k t in
+    let l' : k + n ≤ length q = omega arith in
+    front-is f (k + n) t (Recopied q k n) (recopied-length q k n h l' ∙ same)
+    (λ i b g.
+    by-lt i k (λ u. recopied-below q k n h l' i u ∙ front-in f k t i b u)
+    (λ u. recopied-in q k n h l' i u g ∙ front-in f k t (i - k) (omega arith) (omega arith) ∙ sym (p (i - k)) ∙ ap f (omega arith)))
+    (λ i b g. recopied-past q k n h l' i g ∙ front-past f k t i b (omega arith))
+
+-- the first k bytes of t are repeated in r; the next step's width w is a period of them, and so is k until the end
 pub record Repeating (t : List ℕ) (b end : ℕ) (r : List ℕ) (w k : ℕ) : Type 0 where
   pub some : 1 ≤ w
   pub most : w ≤ block_size
-  pub known : w ≤ k
+  pub known : k < end → w ≤ k
   pub room : k ≤ end
   pub step : Period (λ i. get_or t (i % b) 0) w
-  pub place : Period (λ i. get_or t (i % b) 0) k
+  pub place : k < end → Period (λ i. get_or t (i % b) 0) k
   pub bytes : r ≡ front (λ i. get_or t (i % b) 0) k t
   pub same : length r ≡ length t
 
@@ -69,36 +87,40 @@ pub repeating-start : {t : List ℕ} {b end : ℕ} → 1 ≤ b → b ≤ block_s
 repeating-start {t} {b} l m h = record {
   some = l;
   most = m;
-  known = omega arith;
+  known = λ _. omega arith;
   room = h;
   step = period-bytes t b;
-  place = period-bytes t b;
+  place = λ _. period-bytes t b;
   bytes = repeat-start t b;
   same = refl;
 }
 
--- w bytes more, to give r', and the next step's width w'
-pub repeating-next : {t : List ℕ} {b end : ℕ} {r : List ℕ} {w k : ℕ} → Repeating t b end r w k → end ≤ length t → w ≤ end - k
-    → {r' : List ℕ} → r' ≡ moved r r k 0 w → {w' : ℕ} → w' ≡ cond (leb w (block_size / 2)) (w + w) w → Repeating t b end r' w' (k + w)
-repeating-next {t} {b} {r = r} {w} {k} v l h g {w'} e =
-    let n = wider-bounds w w' e v.most in
+-- the next n bytes, and the next step's width w'
+pub repeating-next : {t : List ℕ} {b end : ℕ} {r : List ℕ} {w k : ℕ} → Repeating t b end r w k → end ≤ length t → k < end
+    → {n : ℕ} → n ≡ min w (end - k) → {done rest copy : List ℕ} → done ≡ take k r → rest ≡ drop k r → copy ≡ take n done
+    → {w' : ℕ} → w' ≡ cond (leb w (block_size / 2)) (w + w) w → Repeating t b end (done ++ (copy ++ drop n rest)) w' (k + n)
+repeating-next {t} {b} {r = r} {w} {k} v l h {n} m {done} {rest} {copy} d e c {w'} g =
+    let x = wider-bounds w w' g v.most in
+    let known : w ≤ k = v.known h in
+    let some = v.some in
+    let room = v.room in
+    let bytes : done ++ (copy ++ drop n rest) ≡ front (λ i. get_or t (i % b) 0) (k + n) t = rw (c, d, e, v.bytes) (repeat-more _ k n t (v.place h) (omega arith) (omega arith)) in
     record {
-      some = omega (arith, v.some);
-      most = n.2;
-      known = omega (arith, v.known);
-      room = omega (arith, v.room);
-      step = period-wider _ w w' e v.step;
-      place = period-sum _ k w v.place v.step;
-      bytes = g ∙ rw v.bytes (repeat-more _ k w t v.place v.known (omega (arith, v.room)));
-      same = ap length g ∙ moved_length r r k 0 w ∙ v.same;
+      some = omega arith;
+      most = x.2;
+      known = λ q. omega arith;
+      room = omega arith;
+      step = period-wider _ w w' g v.step;
+      place = λ q. let y : n ≡ w = omega arith in rw y (period-sum _ k w (v.place h) v.step);
+      bytes = bytes;
+      same = ap length bytes ∙ front_length _ (k + n) t;
     }
 
--- the rest
-pub repeating-end : {t : List ℕ} {b end : ℕ} {r : List ℕ} {w k : ℕ} → Repeating t b end r w k → end ≤ length t → end - k ≤ w
-    → {r' : List ℕ} → r' ≡ moved r r k 0 (end - k) → r' ≡ front (λ i. get_or t (i % b) 0) end t
-repeating-end {t} {b} {end} {r} {w} {k} v l h g =
-    let e : k + (end - k) ≡ end = omega arith in
-    g ∙ rw v.bytes (rw e at (repeat-more _ k (end - k) t v.place (omega arith) (omega arith)))
+-- the end
+pub repeating-end : {t : List ℕ} {b end : ℕ} {r : List ℕ} {w k : ℕ} → Repeating t b end r w k → end ≤ k → r ≡ front (λ i. get_or t (i % b) 0) end t
+repeating-end {t} {b} {end} {r} {w} {k} v h =
+    let e : k ≡ end = omega (arith, v.room) in
+    v.bytes ∙ ap (λ (j : ℕ). front (λ i. get_or t (i % b) 0) j t) e
 
 -- ---- the background, n pixels of b bytes
 
@@ -113,18 +135,19 @@ module _ (n b : ℕ) (bg t r : List ℕ) (one : 1 ≤ b) (pixel : length bg ≡ 
       (λ i h l. rw e (front-past _ (n * b) t i h l))
       ∙ front-fill n b bg t
 
-  -- the first pixel copied, to give t₁, and repeated
-  pub fill-repeat : (t₁ : List ℕ) → 1 ≤ n → n * b ≤ length t → t₁ ≡ copied t bg 0 b → r ≡ front (λ i. get_or t₁ (i % b) 0) (n * b) t₁
+  -- the first pixel put in, and repeated
+  pub fill-repeat : (ys : List ℕ) → 1 ≤ n → n * b ≤ length t → ys ≡ bg → r ≡ front (λ i. get_or (ys ++ drop b t) (i % b) 0) (n * b) (ys ++ drop b t)
       → r ≡ paint n b (λ p. true) (λ p j. get_or bg j 0) t
-  fill-repeat t₁ m room e g =
+  fill-repeat ys m room e g =
+      let fits = pixel-fits n b m in
+      let t₁ : List ℕ = ys ++ drop b t in
+      let put : t₁ ≡ front (λ i. get_or bg i 0) b t = front_put _ b t ys (omega arith) (rw e pixel) (λ i h. rw e refl) in
+      let same : length t₁ ≡ length t = ap length put ∙ front_length _ b t in
       front-is (λ i. get_or bg (i % b) 0) (n * b) t r (ap length g ∙ front_length _ (n * b) t₁ ∙ same)
       (λ i h l. let j = mod-lt i one in
-      rw g (front-in _ (n * b) t₁ i (rw same h) l ∙ rw e (copied-in t bg 0 b (i % b) (omega (arith, pixel-fits n b m)) (omega arith) j)))
-      (λ i h l. rw g (front-past _ (n * b) t₁ i (rw same h) l ∙ rw e (copied-past t bg 0 b i h (omega (arith, pixel-fits n b m)))))
+      rw g (front-in _ (n * b) t₁ i (rw same h) l ∙ ap (λ (x : List ℕ). get_or x (i % b) 0) put ∙ front-in _ b t (i % b) (omega arith) j))
+      (λ i h l. rw g (front-past _ (n * b) t₁ i (rw same h) l ∙ ap (λ (x : List ℕ). get_or x i 0) put ∙ front-past _ b t i h (omega arith)))
       ∙ front-fill n b bg t
-    where
-      same : length t₁ ≡ length t
-      same = ap length e ∙ copied-length t bg 0 b
 
 pub fill_none : (n b : ℕ) (bg t : List ℕ) → n ≡ 0 → t ≡ paint n b (λ p. true) (λ p j. get_or bg j 0) t
 fill_none n b bg t z =

@@ -6,32 +6,13 @@ ghost use Rattle.copies.specs.Copied.{block_size};
 ghost use Rattle.blank.specs.Front.{front, Alike};
 ghost use Rattle.blank.specs.Blank.{FillRoom, BackgroundFilled, Cleared};
 
-// The first n bytes become v.
-fn fill_byte(dst: &mut [u8], n: usize, v: u8)
-    requires { n ≤ length dst.old }
-    ensures { dst.new ≡ front (λ i. v) n dst.old }
-{
-    let mut k: usize = 0;
-    while k < n {
-        dst[k] = v;
-        k += 1;
-    }
-}
-
 // Whether all bytes of the pixel are its first, as they are in black, in white and in every pixel of one byte.
 fn uniform(bg: &[u8]) -> bool
     requires { 1 ≤ length bg.now }
     ensures { (result ≡ true → Alike bg.now (length bg.now)) × (Alike bg.now (length bg.now) → result ≡ true) }
 {
     let v = bg[0];
-    let mut k: usize = 1;
-    while k < bg.len() {
-        if bg[k] != v {
-            return false;
-        }
-        k += 1;
-    }
-    true
+    bg.iter().all(|x| *x == v)
 }
 
 // The width of the next step: twice this one, while that is at most a block.
@@ -39,10 +20,7 @@ fn wider(w: usize) -> usize
     requires { w ≤ block_size }
     ensures { result ≡ cond (leb w (block_size / 2)) (w + w) w }
 {
-    if w <= copies::BLOCK / 2 {
-        return w + w;
-    }
-    w
+    if w <= copies::BLOCK / 2 { w + w } else { w }
 }
 
 // The first b bytes are repeated up to number end: the bytes from 0 on are copied on, twice as many each time, up to a block.
@@ -52,12 +30,14 @@ fn repeat(dst: &mut [u8], b: usize, end: usize)
 {
     let mut w = b;
     let mut k = b;
-    while w <= end - k {
-        copies::copy_within(dst, k, 0, w);
-        k += w;
+    // a while loop: a step may be twice the step before it
+    while k < end {
+        let n = w.min(end - k);
+        let (done, rest) = dst.split_at_mut(k);
+        rest[..n].copy_from_slice(&done[..n]);
+        k += n;
         w = wider(w);
     }
-    copies::copy_within(dst, k, 0, end - k);
 }
 
 // The first n pixels of b bytes become the background pixel.
@@ -67,14 +47,11 @@ pub fn fill(target: &mut [u8], n: usize, b: usize, bg: &[u8])
 {
     let end = n * b;
     if uniform(bg) {
-        fill_byte(target, end, bg[0]);
-        return;
+        target[..end].fill(bg[0]);
+    } else if n > 0 {
+        target[..b].copy_from_slice(bg);
+        repeat(target, b, end);
     }
-    if n == 0 {
-        return;
-    }
-    copies::copy_few(target, bg, 0, b);
-    repeat(target, b, end);
 }
 
 // The bytes that hold the first n bits of the map become zero.
@@ -82,6 +59,5 @@ pub fn clear(map: &mut [u8], n: usize)
     requires { n ≤ 8 * length map.old }
     ensures { Cleared map.old n map.new }
 {
-    let end = n / 8 + (n % 8 + 7) / 8;
-    fill_byte(map, end, 0);
+    map[..n.div_ceil(8)].fill(0);
 }

@@ -1,10 +1,10 @@
 -- The worked cases of paper 01 ("Near each edge") and those of a release, one list under one claim: each answer of the rules is the right one.
-use Rattle.std.specs.Prelude.{ℕ, zero, suc, ◌+◌, ◌%◌, ◌/◌, ◌≡◌, refl, List, [], ◌∷◌, ◌++◌, Bool, true, false, length, replicate, take, drop, ℤ, pos, negsuc}
+use Rattle.std.specs.Prelude.{ℕ, zero, suc, ◌+◌, ◌%◌, ◌/◌, refl, List, [], ◌∷◌, ◌++◌, Bool, true, false, length, replicate, take, drop, ℤ, pos, negsuc}
 use Rattle.std.proofs.Math.Option.{Option-elim}
 use Rattle.format.specs.Scan.{scan_of}
 use Rattle.format.specs.Bytes.{any_of, any_below, all_below, least_below, u32_at, u64_at, biased, same_at, same_range, part_of}
 use Rattle.format.specs.Names.{name_file, name_directory, name_sub_block, name_metadata, name_attachment, name_attachment_directory, name_deleted, mark_tile, tag_metadata, tag_schema, tag_format, text_container, mask_guid}
-use Rattle.format.specs.Checks.{rows_below}
+use Rattle.format.specs.Checks.{Verdict, Accepted, Refused, rows_below}
 use Rattle.format.specs.Segments.{allocated_size, used_size, room, next_segment, length_bad, name_bad, allocated_bad, used_bad, end_bad, sizes_bad, role_bad, segment_rows, walk_rows, walked_from, walked, segments_rows, member, walked_as}
 use Rattle.format.specs.File.{major, file_part, directory_position, metadata_position, update_pending, attachment_directory_position, names_none, names_none_but0, file_rows}
 use Rattle.format.specs.Entry.{pixel_type, file_position, entry_part, compression, dimension_count, letter, start, size, stored_field, stored, next_entry, head_bad, letter_bad, too_far, is_plane, most_size, plane_size_bad, other_size_bad, size_bad, dimension_bad, has_letter, repeats, closes_plane, has_layers, layers_bad, dimensions_bad, letter_index, letter_place, is_layered, layers_index, layers_place, layer_count, pixel_bytes}
@@ -19,8 +19,6 @@ use Rattle.format.specs.Attachments.{metadata_rows, attachments_rows}
 use Rattle.format.specs.Rules.{checks, verdict}
 use Rattle.format.specs.declared.Release.{Release}
 use Rattle.format.specs.declared.Release.TheVariants.{R102, R12}
-use Rattle.format.specs.declared.Verdict.{Verdict}
-use Rattle.format.specs.declared.Verdict.TheVariants.{Accepted, Refused}
 use Rattle.format.specs.Entry.{is_pyramid}
 use Rattle.format.specs.Records.{mask_of}
 use Rattle.format.specs.Masks.{mask_from, mask_shape}
@@ -35,6 +33,8 @@ use Rattle.question.specs.Question.{window_bad, pixel_bad, lent_bad, ask_rows, t
 use Rattle.question.specs.Call.{Asked, call_verdict, selected, target_after, map_after}
 use Rattle.question.specs.declared.Masks.{Masks}
 use Rattle.question.specs.declared.Masks.TheVariants.{NotChosen, On, Off}
+use Rattle.format.specs.declared.Fault.TheVariants as Fault
+use Rattle.cases.specs.Right.{AllRight}
 
 -- ---- the files of the cases
 
@@ -177,18 +177,14 @@ pub record Case : Type 0 where
 abbrev pub case : Question → Answer → Case
 case q a = record { question = q; right = a }
 
-abbrev pub AllRight : List Case → Type 0
-AllRight [] = Unit {0}
-AllRight (c ∷ cs) = (answer c.question ≡ c.right) × AllRight cs
-
 abbrev pub cases : List Case
 cases =
     -- P1 the 288-byte file accepted
     case (judge R12 file288) (verdict-is Accepted) ∷
     -- P2 the same cut to 256: refused 3 at 128
-    case (judge R12 (take 256 file288)) (verdict-is (Refused 3 128)) ∷
+    case (judge R12 (take 256 file288)) (verdict-is (Refused Fault.SegmentSizes 128)) ∷
     -- P3 empty: 1
-    case (judge R12 []) (verdict-is (Refused 1 0)) ∷
+    case (judge R12 []) (verdict-is (Refused Fault.Length 0)) ∷
     -- P4 10 dimensions: F 256
     case (fixed 10) (number 256) ∷
     -- P5 11: F 268
@@ -215,19 +211,19 @@ cases =
     case (plane plain NotChosen R12 (file_two 3 (dimension_of 77 4 1) 3 (dimension_of 77 4 1)) (pos 0) 1) (painted (9 ∷ []) (0x80 ∷ [])) ∷
     case (plane quick NotChosen R12 (file_two 3 (dimension_of 77 4 1) 3 (dimension_of 77 4 1)) (pos 0) 1) (painted (9 ∷ []) (0x80 ∷ [])) ∷
     -- P11 window left 2,147,483,647, width 1: refused 20
-    case (ask file288 (pos 2147483647) 1) (verdict-is (Refused 20 0)) ∷
+    case (ask file288 (pos 2147483647) 1) (verdict-is (Refused Fault.Window 0)) ∷
     -- P12 attachment of 19 bytes marked as container: 17
-    case (judge R12 file19) (verdict-is (Refused 17 770)) ∷
+    case (judge R12 file19) (verdict-is (Refused Fault.Chunk 770)) ∷
     -- the same under 1.02: plain bytes
     case (judge R102 file19) (verdict-is Accepted) ∷
     -- a refusal behind such an attachment: 1.2 stops before it, 1.02 gives it
-    case (judge R12 file_broken) (verdict-is (Refused 17 834)) ∷
-    case (judge R102 file_broken) (verdict-is (Refused 13 360)) ∷
+    case (judge R12 file_broken) (verdict-is (Refused Fault.Chunk 834)) ∷
+    case (judge R102 file_broken) (verdict-is (Refused Fault.Compression 360)) ∷
     -- P8's tile under 1.02, masks on: all its pixels
     case (plane plain On R102 (file_masked (mask1 3 1 (0xff ∷ []))) (pos 0) 5) (painted (10 ∷ 11 ∷ 12 ∷ 13 ∷ 14 ∷ []) (0xf8 ∷ [])) ∷
     case (plane quick On R102 (file_masked (mask1 3 1 (0xff ∷ []))) (pos 0) 5) (painted (10 ∷ 11 ∷ 12 ∷ 13 ∷ 14 ∷ []) (0xf8 ∷ [])) ∷
     []
 
-pub all_right : AllRight cases
+pub all_right : AllRight (λ (c : Case). answer c.question) (λ (c : Case). c.right) cases
 unfolding little segment file_segment file288 dimension1 entry1 element container_section file19 file_broken mask1 dimension_of entry_of block_of wide8 file_wide masked5 file_masked file_two row_at sum tab bit_in bit pack paint mark clear turn run Turns.start below insert bottom_first asked_start asked_layer tile_start free start_count has_start selects rank_of rectangle covers meets entry_tile file_tile tiles_below window_bad pixel_bad lent_bad ask_rows type_bad agree_rows call_verdict selected target_after map_after is_pyramid mask_of mask_from mask_shape any_of any_below all_below least_below u32_at u64_at biased same_at same_range name_file name_directory name_sub_block name_metadata name_attachment name_attachment_directory name_deleted mark_tile tag_metadata tag_schema tag_format text_container mask_guid rows_below allocated_size used_size room next_segment length_bad name_bad allocated_bad used_bad end_bad sizes_bad role_bad segment_rows walk_rows walked_from walked segments_rows member walked_as major file_part directory_position metadata_position update_pending attachment_directory_position names_none names_none_but0 file_rows pixel_type file_position entry_part compression dimension_count letter start size stored_field stored next_entry head_bad letter_bad too_far is_plane most_size plane_size_bad other_size_bad size_bad dimension_bad has_letter repeats closes_plane has_layers layers_bad dimensions_bad letter_index letter_place is_layered layers_index layers_place layer_count pixel_bytes metadata_size attachment_size data_size fixed_part copy_bad sub_block_bad layer_size pixels_size contents_bad metadata_place pixels_place layer_pixels_place attachment_place white name_byte text_byte quote begins_name opener closer front behind begins behind_first quote_after behind_tag tag_at closed end_tag_at skip_at mark_at item_at or_none one_more read_from reads_as same_bytes in_section start_stage text_stage ends_well declares part_of Option-elim is_container has_chunks chunk_size next_chunk chunk_bad is_mask mask_bad mask_refused mask_width mask_height mask_stride representation chunk_rows chunks_rows mask_byte mask_valid entry_count room_end tile_count entry_place directory_bad head_rows tile_rows sub_block_rows attachment_rows entry_rows directory_rows metadata_rows attachments_rows checks verdict
-all_right = (refl, (refl, (refl, (refl, (refl, (refl, (refl, (refl, (refl, (refl, (refl, (refl, (refl, (refl, (refl, (refl, (refl, (refl, (refl, (refl, (refl, (refl, (refl, (refl, (refl, (refl, tt))))))))))))))))))))))))))
+all_right = refl

@@ -1,10 +1,10 @@
 -- Worked cases of layers (paper 02, Req 10), one list under one claim: which entries may have them, the record and the view, and the plane of each layer.
-use Rattle.std.specs.Prelude.{ℕ, ◌-◌, ◌≡◌, refl, List, [], ◌∷◌, ◌++◌, false, length, replicate, take, ℤ, pos}
+use Rattle.std.specs.Prelude.{ℕ, ◌-◌, refl, List, [], ◌∷◌, ◌++◌, false, Option, Some, None, length, replicate, take, ℤ, pos}
 use Rattle.std.proofs.Math.Option.{Option-elim}
 use Rattle.format.specs.Scan.{scan_of}
 use Rattle.format.specs.Bytes.{any_of, any_below, all_below, least_below, u32_at, u64_at, biased, signed32, same_at, same_range, part_of}
 use Rattle.format.specs.Names.{name_file, name_directory, name_sub_block, name_metadata, name_attachment, name_attachment_directory, name_deleted, mark_tile, tag_metadata, tag_schema, tag_format, text_container, mask_guid}
-use Rattle.format.specs.Checks.{rows_below}
+use Rattle.format.specs.Checks.{Verdict, Accepted, Refused, rows_below}
 use Rattle.format.specs.Segments.{allocated_size, used_size, room, next_segment, length_bad, name_bad, allocated_bad, used_bad, end_bad, sizes_bad, role_bad, segment_rows, walk_rows, walked_from, walked, segments_rows, member, walked_as}
 use Rattle.format.specs.File.{major, file_part, directory_position, metadata_position, update_pending, attachment_directory_position, names_none, names_none_but0, file_rows}
 use Rattle.format.specs.Entry.{pixel_type, file_position, entry_part, compression, dimension_count, letter, start, size, stored_field, stored, next_entry, head_bad, letter_bad, too_far, is_plane, most_size, plane_size_bad, other_size_bad, size_bad, dimension_bad, has_letter, repeats, closes_plane, has_layers, layers_bad, dimensions_bad, letter_index, letter_place, is_layered, layers_index, layers_place, layer_count, pixel_bytes}
@@ -20,8 +20,6 @@ use Rattle.format.specs.Rules.{checks, verdict, tile_verdict}
 use Rattle.format.specs.declared.Release.TheVariants.{R12}
 use Rattle.format.specs.declared.Span.{Span}
 use Rattle.format.specs.declared.Layers.{Layers}
-use Rattle.format.specs.declared.Verdict.{Verdict}
-use Rattle.format.specs.declared.Verdict.TheVariants.{Accepted, Refused}
 use Rattle.format.specs.Entry.{is_pyramid}
 use Rattle.format.specs.Records.{mask_of, layers_of, tile_at, tile_record, pixels_span, tile_pixels, span}
 use Rattle.format.specs.Masks.{mask_from, mask_shape}
@@ -37,6 +35,8 @@ use Rattle.question.specs.Call.{Asked, call_verdict, selected, target_after, map
 use Rattle.question.specs.declared.Masks.{Masks}
 use Rattle.question.specs.declared.Masks.TheVariants.{NotChosen, On}
 use Rattle.cases.specs.Cases.{little, segment, file_segment, element, container_section, mask1, dimension_of}
+use Rattle.format.specs.declared.Fault.TheVariants as Fault
+use Rattle.cases.specs.Right.{AllRight}
 
 -- ---- the files of the cases: one tile, its entry at 288, its sub-block at 448
 
@@ -100,7 +100,7 @@ pub data Question : Type 0 where
 
 pub data Answer : Type 0 where
   verdict-is : Verdict → Answer
-  layers-are : Layers → Answer
+  layers-are : Option Layers → Answer
   view_is : Span → Answer
   painted : List ℕ → List ℕ → Answer
 
@@ -116,7 +116,7 @@ answer (plane_along x k masks file z) = composed k (asked_along x masks file z)
 
 -- those answers in short: a letter, a start and a size; and the window with no pixel of the tile
 abbrev pub has : ℕ → ℤ → ℕ → Answer
-has x from n = layers-are (record { letter = x; start = from; size = n })
+has x from n = layers-are (Some (record { letter = x; start = from; size = n }))
 
 abbrev pub nothing : Answer
 nothing = painted (1 ∷ 1 ∷ 1 ∷ []) (0 ∷ [])
@@ -127,10 +127,6 @@ pub record Case : Type 0 where
 
 abbrev pub case : Question → Answer → Case
 case q a = record { question = q; right = a }
-
-abbrev pub AllRight : List Case → Type 0
-AllRight [] = Unit {0}
-AllRight (c ∷ cs) = (answer c.question ≡ c.right) × AllRight cs
 
 abbrev pub cases : List Case
 cases =
@@ -152,28 +148,28 @@ cases =
     case (judge (file_of 4 3 (dimension_of 88 0 1 ++ dimension_of 89 0 2 ++ dimension_of 67 5 2) 288 24 [] (replicate 24 7) [])) (verdict-is Accepted) ∷
     -- Start + Size at 2,147,483,647: the last layer is there; and above it: 11
     case (plane quick NotChosen (file_z (dimension_of 90 2147483644 3)) (pos 2147483646)) (painted (30 ∷ 31 ∷ 1 ∷ []) (0xc0 ∷ [])) ∷
-    case (judge (file_z (dimension_of 90 2147483645 3))) (verdict-is (Refused 11 288)) ∷
+    case (judge (file_z (dimension_of 90 2147483645 3))) (verdict-is (Refused Fault.Entry 288)) ∷
     -- the letter before X, and between X and Y: 11
-    case (judge (tile_of 3 (dimension_of 90 5 3 ++ plane2) pixels6)) (verdict-is (Refused 11 288)) ∷
-    case (judge (tile_of 3 (dimension_of 88 0 2 ++ dimension_of 90 5 3 ++ dimension_of 89 0 1) pixels6)) (verdict-is (Refused 11 288)) ∷
+    case (judge (tile_of 3 (dimension_of 90 5 3 ++ plane2) pixels6)) (verdict-is (Refused Fault.Entry 288)) ∷
+    case (judge (tile_of 3 (dimension_of 88 0 2 ++ dimension_of 90 5 3 ++ dimension_of 89 0 1) pixels6)) (verdict-is (Refused Fault.Entry 288)) ∷
     -- with T (84) of Size 1 before X, and M (77) between Y and Z
     case (judge (tile_of 5 (dimension_of 84 0 1 ++ plane2 ++ dimension_of 77 4 1 ++ dimension_of 90 5 3) pixels6)) (verdict-is Accepted) ∷
     -- two letters of Size 2; M and S (83) of Size 2: 11
-    case (judge (tile_of 4 (plane2 ++ dimension_of 90 5 2 ++ dimension_of 84 0 2) (replicate 8 7))) (verdict-is (Refused 11 288)) ∷
-    case (judge (tile_of 3 (plane2 ++ dimension_of 77 0 2) (replicate 4 7))) (verdict-is (Refused 11 288)) ∷
-    case (judge (tile_of 3 (plane2 ++ dimension_of 83 0 2) (replicate 4 7))) (verdict-is (Refused 11 288)) ∷
+    case (judge (tile_of 4 (plane2 ++ dimension_of 90 5 2 ++ dimension_of 84 0 2) (replicate 8 7))) (verdict-is (Refused Fault.Entry 288)) ∷
+    case (judge (tile_of 3 (plane2 ++ dimension_of 77 0 2) (replicate 4 7))) (verdict-is (Refused Fault.Entry 288)) ∷
+    case (judge (tile_of 3 (plane2 ++ dimension_of 83 0 2) (replicate 4 7))) (verdict-is (Refused Fault.Entry 288)) ∷
     -- StoredSize 2 for Size 3: 11; StoredSize 3 is as good as 0
-    case (judge (file_z (stored_as 90 5 3 2))) (verdict-is (Refused 11 288)) ∷
+    case (judge (file_z (stored_as 90 5 3 2))) (verdict-is (Refused Fault.Entry 288)) ∷
     case (judge (file_z (stored_as 90 5 3 3))) (verdict-is Accepted) ∷
     -- 1,024 layers of one pixel, and 1,025: 11; Size 0: 11
     case (judge (file_of 0 3 (dimension_of 88 0 1 ++ dimension_of 89 0 1 ++ dimension_of 90 0 1024) 1280 1024 [] (replicate 1024 7) [])) (verdict-is Accepted) ∷
-    case (judge (file_of 0 3 (dimension_of 88 0 1 ++ dimension_of 89 0 1 ++ dimension_of 90 0 1025) 1312 1025 [] (replicate 1025 7) [])) (verdict-is (Refused 11 288)) ∷
-    case (judge (tile_of 3 (plane2 ++ dimension_of 90 5 0) [])) (verdict-is (Refused 11 288)) ∷
+    case (judge (file_of 0 3 (dimension_of 88 0 1 ++ dimension_of 89 0 1 ++ dimension_of 90 0 1025) 1312 1025 [] (replicate 1025 7) [])) (verdict-is (Refused Fault.Entry 288)) ∷
+    case (judge (tile_of 3 (plane2 ++ dimension_of 90 5 0) [])) (verdict-is (Refused Fault.Entry 288)) ∷
     -- DataSize without the factor: 16
-    case (judge (file_of 0 3 (plane2 ++ dimension_of 90 5 3) 288 2 [] pixels6 [])) (verdict-is (Refused 16 448)) ∷
+    case (judge (file_of 0 3 (plane2 ++ dimension_of 90 5 3) 288 2 [] pixels6 [])) (verdict-is (Refused Fault.Sizes 448)) ∷
     -- X and Y near 2 ^ 31, 24 bytes a pixel and 1,024 layers: 16, and so where the product is a multiple of 2 ^ 64
-    case (judge (file_of 11 3 (dimension_of 88 0 2147483647 ++ dimension_of 89 0 2147483647 ++ dimension_of 90 0 1024) 288 0 [] [] [])) (verdict-is (Refused 16 448)) ∷
-    case (judge (file_of 11 3 (dimension_of 88 0 2080374784 ++ dimension_of 89 0 2080374784 ++ dimension_of 90 0 1024) 288 0 [] [] [])) (verdict-is (Refused 16 448)) ∷
+    case (judge (file_of 11 3 (dimension_of 88 0 2147483647 ++ dimension_of 89 0 2147483647 ++ dimension_of 90 0 1024) 288 0 [] [] [])) (verdict-is (Refused Fault.Sizes 448)) ∷
+    case (judge (file_of 11 3 (dimension_of 88 0 2080374784 ++ dimension_of 89 0 2080374784 ++ dimension_of 90 0 1024) 288 0 [] [] [])) (verdict-is (Refused Fault.Sizes 448)) ∷
     -- the mask serves each layer
     case (plane plain On masked_z (pos 5)) (painted (1 ∷ 11 ∷ 1 ∷ []) (0x40 ∷ [])) ∷
     case (plane quick On masked_z (pos 7)) (painted (1 ∷ 31 ∷ 1 ∷ []) (0x40 ∷ [])) ∷
@@ -181,11 +177,11 @@ cases =
     case (judge pyramid_z) (verdict-is Accepted) ∷
     case (plane quick NotChosen pyramid_z (pos 5)) nothing ∷
     -- Size 1 is no layer: the record has none, and the tile is selected where it starts
-    case (layers_in (tile_of 3 (plane2 ++ dimension_of 90 5 1) (10 ∷ 11 ∷ []))) (has 0 (pos 0) 0) ∷
+    case (layers_in (tile_of 3 (plane2 ++ dimension_of 90 5 1) (10 ∷ 11 ∷ []))) (layers-are None) ∷
     case (plane quick NotChosen (tile_of 3 (plane2 ++ dimension_of 90 5 1) (10 ∷ 11 ∷ [])) (pos 5)) (painted (10 ∷ 11 ∷ 1 ∷ []) (0xc0 ∷ [])) ∷
     case (plane quick NotChosen (tile_of 3 (plane2 ++ dimension_of 90 5 1) (10 ∷ 11 ∷ [])) (pos 6)) nothing ∷
     []
 
-pub all_right : AllRight cases
+pub all_right : AllRight (λ (c : Case). answer c.question) (λ (c : Case). c.right) cases
 unfolding little segment file_segment element container_section mask1 dimension_of stored_as file_of plane2 pixels6 tile_of file_z masked_z pyramid_z asked_along sum tab bit_in bit pack paint mark clear turn run Turns.start below insert bottom_first asked_start asked_layer tile_start free start_count has_start selects rank_of rectangle covers meets entry_tile file_tile tiles_below window_bad pixel_bad lent_bad ask_rows type_bad agree_rows call_verdict selected target_after map_after is_pyramid mask_of mask_from mask_shape any_of any_below all_below least_below u32_at u64_at biased same_at same_range name_file name_directory name_sub_block name_metadata name_attachment name_attachment_directory name_deleted mark_tile tag_metadata tag_schema tag_format text_container mask_guid rows_below allocated_size used_size room next_segment length_bad name_bad allocated_bad used_bad end_bad sizes_bad role_bad segment_rows walk_rows walked_from walked segments_rows member walked_as major file_part directory_position metadata_position update_pending attachment_directory_position names_none names_none_but0 file_rows pixel_type file_position entry_part compression dimension_count letter start size stored_field stored next_entry head_bad letter_bad too_far is_plane most_size plane_size_bad other_size_bad size_bad dimension_bad has_letter repeats closes_plane has_layers layers_bad dimensions_bad letter_index letter_place is_layered layers_index layers_place layer_count pixel_bytes metadata_size attachment_size data_size fixed_part copy_bad sub_block_bad layer_size pixels_size contents_bad metadata_place pixels_place layer_pixels_place attachment_place white name_byte text_byte quote begins_name opener closer front behind begins behind_first quote_after behind_tag tag_at closed end_tag_at skip_at mark_at item_at or_none one_more read_from reads_as same_bytes in_section start_stage text_stage ends_well declares part_of Option-elim is_container has_chunks chunk_size next_chunk chunk_bad is_mask mask_bad mask_refused mask_width mask_height mask_stride representation chunk_rows chunks_rows mask_byte mask_valid entry_count room_end tile_count entry_place directory_bad head_rows tile_rows sub_block_rows attachment_rows entry_rows directory_rows metadata_rows attachments_rows checks verdict signed32 layers_of tile_at tile_record pixels_span tile_pixels tile_verdict
-all_right = (refl, (refl, (refl, (refl, (refl, (refl, (refl, (refl, (refl, (refl, (refl, (refl, (refl, (refl, (refl, (refl, (refl, (refl, (refl, (refl, (refl, (refl, (refl, (refl, (refl, (refl, (refl, (refl, (refl, (refl, (refl, (refl, (refl, (refl, tt))))))))))))))))))))))))))))))))))
+all_right = refl

@@ -2,6 +2,7 @@
 pub mod Cases
 pub mod Counts
 pub mod Written
+pub mod Right
 pub mod Sections
 pub mod Quotes
 pub mod Repacks

@@ -1,10 +1,10 @@
 -- Worked cases of a repack (paper 02, Req 04): whole new files in bytes, the refusals in their order, and a second repack.
-use Rattle.std.specs.Prelude.{ℕ, ◌-◌, ◌≡◌, refl, List, [], ◌∷◌, ◌++◌, length, replicate}
+use Rattle.std.specs.Prelude.{ℕ, ◌-◌, refl, List, [], ◌∷◌, ◌++◌, length, replicate}
 use Rattle.std.proofs.Math.Option.{Option-elim}
 use Rattle.format.specs.Scan.{scan_of}
 use Rattle.format.specs.Bytes.{any_of, any_below, all_below, least_below, u32_at, u64_at, biased, same_at, same_range, part_of}
 use Rattle.format.specs.Names.{name_file, name_directory, name_sub_block, name_metadata, name_attachment, name_attachment_directory, name_deleted, mark_tile, mark_attachment, tag_metadata, tag_schema, tag_format, text_container, mask_guid}
-use Rattle.format.specs.Checks.{rows_below}
+use Rattle.format.specs.Checks.{Verdict, Accepted, Refused, rows_below}
 use Rattle.format.specs.Segments.{allocated_size, used_size, room, next_segment, length_bad, name_bad, allocated_bad, used_bad, end_bad, sizes_bad, role_bad, segment_rows, walk_rows, walked_from, walked, segments_rows, member, walked_as}
 use Rattle.format.specs.File.{major, file_part, directory_position, metadata_position, update_pending, attachment_directory_position, names_none, names_none_but0, file_rows}
 use Rattle.format.specs.Entry.{pixel_type, file_position, entry_part, compression, dimension_count, letter, start, size, stored_field, stored, next_entry, head_bad, letter_bad, too_far, is_plane, most_size, plane_size_bad, other_size_bad, size_bad, dimension_bad, has_letter, repeats, closes_plane, has_layers, layers_bad, dimensions_bad, letter_index, letter_place, is_layered, layers_index, layers_place, layer_count, pixel_bytes}
@@ -18,8 +18,6 @@ use Rattle.format.specs.Attachments.{xml_size, xml_attachment_size, metadata_bad
 use Rattle.format.specs.Attachments.{attachment_data_size, attachment_bad, attachment_data_bad, attachment_entry_rows, attachment_directory_rows, attachments_rows}
 use Rattle.format.specs.Rules.{checks, verdict}
 use Rattle.format.specs.declared.Release.TheVariants.{R12}
-use Rattle.format.specs.declared.Verdict.{Verdict}
-use Rattle.format.specs.declared.Verdict.TheVariants.{Accepted, Refused}
 use Rattle.pack.specs.Pack.{bytes_of, zeros, allocated, segment_size, header, segment_bytes, packed, each, joined}
 use Rattle.repacked.specs.Contents.{file_content, moved_entry, directory_content, parts_size, sub_block_content, metadata_content, moved_attachment_entry, attachment_directory_content, attachment_content}
 use Rattle.repacked.specs.NewFile.{entry_size, entries_size, directory_size, sub_block_size, metadata_content_size, attachment_directory_size, attachment_content_size, new_directory, new_block, new_metadata, new_attachment_directory, new_attachment, new_end, new_entry, new_attachment_entry}
@@ -28,6 +26,8 @@ use Rattle.repacked.specs.NewFile as New
 use Rattle.repacked.specs.Refusals.{too_large, size_verdict, repack_verdict}
 use Rattle.cases.specs.Written.{bytes}
 use Rattle.cases.specs.Cases.{little, segment, file_segment, file288, element, container_section, dimension1, entry1, file19}
+use Rattle.format.specs.declared.Fault.TheVariants as Fault
+use Rattle.cases.specs.Right.{AllRight}
 
 -- ---- the new file of the 288-byte file, whole in bytes: the file segment of 544, the directory of 160
 
@@ -116,10 +116,6 @@ pub record Case : Type 0 where
 abbrev pub case : Question → Answer → Case
 case q a = record { question = q; right = a }
 
-abbrev pub AllRight : List Case → Type 0
-AllRight [] = Unit {0}
-AllRight (c ∷ cs) = (answer_to c.question ≡ c.right) × AllRight cs
-
 abbrev pub cases : List Case
 cases =
     -- the 288-byte file, its new file, and that one's
@@ -128,21 +124,21 @@ cases =
     case (renewed new704) (file new704) ∷
     -- a buffer of just its length, and one that is a byte short
     case (into file288 704) (says Accepted) ∷
-    case (into file288 703) (says (Refused 25 0)) ∷
+    case (into file288 703) (says (Refused Fault.RepackBuffer 0)) ∷
     -- dead segments and slack are gone, spare bytes are zero, and the sub-block that is listed twice is written twice
     case (judged file_dirty) (says Accepted) ∷
     case (sized file_dirty) (says Accepted) ∷
     case (renewed file_dirty) (file new_clean) ∷
     case (into file_dirty 2560) (says Accepted) ∷
-    case (into file_dirty 2559) (says (Refused 25 0)) ∷
+    case (into file_dirty 2559) (says (Refused Fault.RepackBuffer 0)) ∷
     case (judged new_clean) (says Accepted) ∷
     case (renewed new_clean) (file new_clean) ∷
     -- a file's own refusal goes first, whatever the buffer
-    case (sized file19) (says (Refused 17 770)) ∷
-    case (into file19 0) (says (Refused 17 770)) ∷
-    case (into [] 0) (says (Refused 1 0)) ∷
+    case (sized file19) (says (Refused Fault.Chunk 770)) ∷
+    case (into file19 0) (says (Refused Fault.Chunk 770)) ∷
+    case (into [] 0) (says (Refused Fault.Length 0)) ∷
     []
 
-pub all_right : AllRight cases
+pub all_right : AllRight (λ (c : Case). answer_to c.question) (λ (c : Case). c.right) cases
 unfolding little segment file_segment element container_section any_of any_below all_below least_below u32_at u64_at biased same_at same_range name_file name_directory name_sub_block name_metadata name_attachment name_attachment_directory name_deleted mark_tile tag_metadata tag_schema tag_format text_container mask_guid rows_below allocated_size used_size room next_segment length_bad name_bad allocated_bad used_bad end_bad sizes_bad role_bad segment_rows walk_rows walked_from walked segments_rows member walked_as major file_part directory_position metadata_position update_pending attachment_directory_position names_none names_none_but0 file_rows pixel_type file_position entry_part compression dimension_count letter start size stored_field stored next_entry head_bad letter_bad too_far is_plane most_size plane_size_bad other_size_bad size_bad dimension_bad has_letter repeats closes_plane has_layers layers_bad dimensions_bad letter_index letter_place is_layered layers_index layers_place layer_count pixel_bytes metadata_size attachment_size data_size fixed_part copy_bad sub_block_bad layer_size pixels_size contents_bad metadata_place pixels_place attachment_place white name_byte text_byte quote begins_name opener closer front behind begins behind_first quote_after behind_tag tag_at closed end_tag_at skip_at mark_at item_at or_none one_more read_from reads_as same_bytes in_section start_stage text_stage ends_well declares part_of Option-elim is_container has_chunks chunk_size next_chunk chunk_bad is_mask mask_bad mask_refused mask_width mask_height mask_stride representation chunk_rows chunks_rows mask_byte mask_valid entry_count room_end tile_count entry_place directory_bad head_rows tile_rows sub_block_rows attachment_rows entry_rows directory_rows metadata_rows attachments_rows checks verdict file288 dimension1 entry1 file19 heading new704 spare entry_at attached_at file_dirty new_block_at new_clean bytes_of zeros allocated segment_size header segment_bytes packed each joined file_content moved_entry directory_content parts_size sub_block_content metadata_content moved_attachment_entry attachment_directory_content attachment_content entry_size entries_size directory_size sub_block_size metadata_content_size attachment_directory_size attachment_content_size new_directory new_block new_metadata new_attachment_directory new_attachment new_entry new_attachment_entry New.file_segment directory_segment block_segment metadata_segment attachment_directory_segment attachment_segment annex_segments new_segments repacked too_large size_verdict repack_verdict xml_size xml_attachment_size metadata_bad attachment_entry_count attachment_entry attachment_directory_bad attachment_count attachment_position attachment_part attachment_entry_bad attachment_data_size attachment_bad attachment_data_bad attachment_entry_rows attachment_directory_rows mark_attachment
-all_right = (refl, (refl, (refl, (refl, (refl, (refl, (refl, (refl, (refl, (refl, (refl, (refl, (refl, (refl, (refl, tt)))))))))))))))
+all_right = refl

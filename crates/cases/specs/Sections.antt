@@ -1,5 +1,5 @@
 -- Worked cases of a sub-block's metadata (paper 02, Req 01), one list under one claim: which declare a chunk container.
-use Rattle.std.specs.Prelude.{ℕ, zero, suc, ◌≡◌, refl, List, [], ◌∷◌, ◌++◌, Bool, true, false, length}
+use Rattle.std.specs.Prelude.{ℕ, zero, suc, refl, List, [], ◌∷◌, ◌++◌, Bool, true, false, length}
 use Rattle.std.proofs.Math.Option.{Option-elim}
 use Rattle.format.specs.Bytes.{any_of, part_of}
 use Rattle.format.specs.Names.{tag_metadata, tag_schema, tag_format, text_container}
@@ -7,6 +7,7 @@ use Rattle.format.specs.Markup.{white, name_byte, text_byte, quote, begins_name,
 use Rattle.format.specs.Markup.{tag_at, closed, end_tag_at, skip_at, mark_at, item_at, or_none, one_more, read_from, reads_as}
 use Rattle.format.specs.Container.{same_bytes, in_section, start_stage, text_stage, ends_well, declares, is_container}
 use Rattle.cases.specs.Written.{bytes}
+use Rattle.cases.specs.Right.{AllRight}
 
 -- the container's section
 abbrev pub section : List ℕ
@@ -24,10 +25,6 @@ pub record Case : Type 0 where
 
 abbrev pub case : List ℕ → Bool → Case
 case metadata right = record { metadata = metadata; right = right }
-
-abbrev pub AllRight : List Case → Type 0
-AllRight [] = Unit {0}
-AllRight (c ∷ cs) = (is_container c.metadata 0 (length c.metadata) ≡ c.right) × AllRight cs
 
 abbrev pub cases : List Case
 cases =
@@ -69,6 +66,6 @@ cases =
     case (section ++ nest 65 []) false ∷
     []
 
-pub all_right : AllRight cases
+pub all_right : AllRight (λ (c : Case). is_container c.metadata 0 (length c.metadata)) (λ (c : Case). c.right) cases
 unfolding is_container part_of Option-elim reads_as read_from or_none one_more item_at mark_at skip_at end_tag_at closed tag_at behind_tag quote_after behind_first begins behind front opener closer begins_name quote text_byte name_byte white any_of declares ends_well start_stage text_stage in_section same_bytes tag_metadata tag_schema tag_format text_container
-all_right = (refl, (refl, (refl, (refl, (refl, (refl, (refl, (refl, (refl, (refl, (refl, (refl, (refl, (refl, (refl, (refl, (refl, (refl, (refl, (refl, (refl, tt)))))))))))))))))))))
+all_right = refl

@@ -7,10 +7,9 @@ use native.Mathlib.Omega.{arith}
 use lib.ListN.{get_or}
 use lib.Dec.{eqb}
 use borrow.Author.Tests.{ne_eqb, eq-eqb, eqb-false, not-true, not-false}
-use Rattle.format.specs.Checks.{first, rows_below}
+use Rattle.format.specs.Checks.{Accepted, Refused, refusal, first, rows_below}
 use Rattle.format.specs.Entry.{pixel_type}
 use Rattle.format.specs.Directory.{tile_count, entry_place}
-use Rattle.format.specs.declared.Verdict.TheVariants.{Accepted, Refused}
 use Rattle.format.proofs.Firsts.{rows-zero, rows_more, rows-stop}
 use Rattle.subblocks.specs.Judged.{Listed}
 use Rattle.judge.proofs.AcceptedFile.{tiled-file}
@@ -18,6 +17,7 @@ use Rattle.plane.specs.declared.Rect.{Rect}
 use Rattle.tiles.specs.FileTile.{rectangle, meets}
 use Rattle.question.specs.Question.{type_bad, agree_row, agree_rows}
 use Rattle.compose.specs.Steps.{chosen_in, Chosen}
+use Rattle.format.specs.declared.Fault.TheVariants as Fault
 
 -- ---- the test at a place of the table: no entry stands at 0
 
@@ -76,11 +76,11 @@ module _ {bs table : List ℕ} (c : Chosen bs table) {n : ℕ} (e : n ≡ tile_c
   }
 
   pub agree-stop : (r : Bool) → k < n → r ≡ bad_at bs w t (get_or table k 0) → r ≡ true
-      → Refused 23 (get_or table k 0) ≡ first (agree_rows bs (chosen_in table) w t)
+      → Refused Fault.TileType (get_or table k 0) ≡ first (agree_rows bs (chosen_in table) w t)
   unfolding agree_rows
   agree-stop r h i f =
-      ap (Refused 23) (table-place c e k h (some (sym i ∙ f)))
-      ∙ sym (rows-stop (tile_count bs) k (agree_row bs (chosen_in table) w t) 23 (entry_place bs k) (omega arith) p.none
+      ap (Refused Fault.TileType) (table-place c e k h (some (sym i ∙ f)))
+      ∙ sym (rows-stop (tile_count bs) k (agree_row bs (chosen_in table) w t) (refusal Fault.TileType (entry_place bs k)) (omega arith) p.none
       (rw (sym (row-test c e k h w t) ∙ (sym i ∙ f))))
     where
       some : bad_at bs w t (get_or table k 0) ≡ true → get_or table k 0 ≡ 0 → ⊥

@@ -10,12 +10,12 @@ use lib.Dec.{eqb}
 use borrow.Author.Tests.{eqb-true, eqb-false, not-false, not-true}
 use lib.IntN.{ℤ}
 use Rattle.format.specs.Choice.{Choice}
-use Rattle.format.specs.Checks.{Check, first, rows_below}
+use Rattle.std.specs.Prelude.{Ok, Err}
+use Rattle.format.specs.Checks.{Verdict, Accepted, Check, first, rows_below}
 use Rattle.format.specs.Entry.{pixel_type}
 use Rattle.format.specs.Directory.{tile_count, entry_place}
 use Rattle.format.specs.Rules.{checks, verdict, AcceptedFile}
-use Rattle.format.specs.declared.Verdict.{Verdict}
-use Rattle.format.specs.declared.Verdict.TheVariants.{Accepted, Refused}
+use Rattle.format.specs.declared.Refusal.{Refusal}
 use Rattle.format.proofs.Firsts.{passed}
 use Rattle.directory.proofs.Stages.{then-stop, then_next}
 use Rattle.plane.specs.declared.Rect.{Rect}
@@ -28,14 +28,13 @@ use Rattle.selection.proofs.Chosen.{not_chosen, is-chosen}
 use Rattle.selection.proofs.Starts.{selected-whole, selected-layer}
 use Rattle.judge.proofs.AcceptedFile.{tiled}
 use Rattle.question.specs.Question.{masks_on, type_bad, ask_rows, agree_rows, request_window, window_bad}
-use Rattle.question.specs.Call.{Asked, choice_of, chosen, call_verdict, asked_window, asked_bytes, selected, painted, answer, target_after, map_after, Answered}
+use Rattle.question.specs.Call.{Asked, choice_of, chosen, call_verdict, asked_window, asked_bytes, selected, painted, counts, answer, target_after, map_after, Answered}
 use Rattle.question.specs.declared.WindowRequest.{WindowRequest}
-use Rattle.question.specs.declared.Composed.TheVariants as Ans
+use Rattle.question.specs.declared.Counts.{Counts}
 use Rattle.question.proofs.Accepts.{call_ok}
 use Rattle.question.proofs.Asking.{window-ok, pixel-ok}
 use Rattle.question.proofs.Calls.{room}
-use Rattle.compose.specs.Steps.{chosen_in, Chosen, Edges, PlaneRoom, PlaneDone, starts_select, Selects, AgreeAnswered, AskAnswered, ExamineAnswered}
-use Rattle.compose.specs.declared.Counts.{Counts}
+use Rattle.compose.specs.Steps.{chosen_in, Chosen, Edges, PlaneRoom, PlaneDone, starts_select, Selects, ExamineAnswered}
 use Rattle.compose.proofs.KeyTiles.{tiles-ext}
 
 -- ---- the table of a selection chooses as the starts do
@@ -76,14 +75,6 @@ unfolding rows_below
 rows_ext zero f g h = refl
 rows_ext (suc n) f g h = rw (rows_ext n f g (λ k l. h k (omega arith)), h n (omega arith))
 
-pub agreed : (bs : List ℕ) (starts : List ℤ) (any_scene : Bool) (f : WindowRequest) {table : List ℕ} {v : Verdict} (w : Rect) → Selects bs starts any_scene table
-    → w ≡ request_window f → v ≡ first (agree_rows bs (chosen_in table) w f.pixel_type) → AgreeAnswered bs starts any_scene f table v
-unfolding agree_rows
-agreed bs starts any_scene f {table} {v} w s i j = record {
-  verdict-is = rw (← i) (j ∙ ap first (rows_ext (tile_count bs) _ _ (λ k h. rw (s.as_asked k h))));
-  selects_so = s;
-}
-
 -- ---- the window as the code has it
 
 pub sides-fit : (f : WindowRequest) → window_bad (request_window f) ≡ false → (f.width ≤ 65536) × (f.height ≤ 65536)
@@ -96,37 +87,39 @@ edges_fit {w} v e h =
 
 -- ---- one stage after another
 
-refuses-none : {A : Type 0} {n p : ℕ} → Refused n p ≡ Accepted → A
+refuses-none : {A : Type 0} {r : Refusal} → Err r ≡ Accepted → A
 refuses-none e = let z : ◌≡◌ {A = ℕ} 0 1 = cc in absurd (omega arith)
 
-module _ (bs : List ℕ) (starts : List ℤ) (any_scene : Bool) (f : WindowRequest) (background : List ℕ) (target map : ℕ) where
-  pub ask-stops : {table : List ℕ} {n p : ℕ} (v : Verdict) → v ≡ first (ask_rows f background target map) → v ≡ Refused n p
-      → AskAnswered bs starts any_scene f background target map table (Refused n p)
-  ask-stops v h e = record { verdict-is = then-stop v (ask_rows f background target map) _ _ _ h e; selects_so = λ z. refuses-none z }
-
-  pub ask-passes : {table : List ℕ} {r : Verdict} (v : Verdict) → v ≡ first (ask_rows f background target map) → v ≡ Accepted
-      → AgreeAnswered bs starts any_scene f table r → AskAnswered bs starts any_scene f background target map table r
-  ask-passes {table} {r} v h e a = record {
-    verdict-is = then_next v r (ask_rows f background target map) _ h e a.verdict-is;
-    selects_so = λ z. a.selects_so;
-  }
-
--- a window that was asked for has its sides and edges
-pub asked-window : (f : WindowRequest) (background : List ℕ) (target map : ℕ) (v : Verdict) → v ≡ first (ask_rows f background target map) → v ≡ Accepted
-    → window_bad (request_window f) ≡ false
-unfolding ask_rows
-asked-window f background target map v h e = passed (ask_rows f background target map) (sym h ∙ e) 0
-
 module _ (a : Asked) (target map : ℕ) where
-  pub judge-stops : {table : List ℕ} {n p : ℕ} (v : Verdict) → v ≡ verdict a.scan → v ≡ Refused n p → ExamineAnswered a target map table (Refused n p)
+  pub judge-stops : {table : List ℕ} {r : Refusal} {v : Verdict} → v ≡ verdict a.scan → v ≡ Err r → ExamineAnswered a target map table (Err r)
   unfolding call_verdict verdict
-  judge-stops v h e = record { verdict-is = then-stop v (checks a.scan) _ _ _ h e; selects_so = λ z. refuses-none z }
+  judge-stops {v = v} h e = record { verdict-is = then-stop v (checks a.scan) _ _ h e; selects_so = λ z. refuses-none z }
 
-  pub judge-passes : {table : List ℕ} {r : Verdict} (v : Verdict) → v ≡ verdict a.scan → v ≡ Accepted
-      → AskAnswered a.scan.file a.starts a.any_scene a.request a.background target map table r
-      → ExamineAnswered a target map table r
-  unfolding call_verdict verdict
-  judge-passes {table} {r} v h e k = record { verdict-is = then_next v r (checks a.scan) _ h e k.verdict-is; selects_so = k.selects_so }
+  -- the file is accepted, and u is what is asked
+  module _ {v u : Verdict} (h : v ≡ verdict a.scan) (e : v ≡ Accepted) (i : u ≡ first (ask_rows a.request a.background target map)) where
+    pub ask-stops : {table : List ℕ} {r : Refusal} → u ≡ Err r → ExamineAnswered a target map table (Err r)
+    unfolding call_verdict verdict
+    ask-stops {r = r} k = record {
+      verdict-is = then_next v (Err r) (checks a.scan) _ h e (then-stop u (ask_rows a.request a.background target map) _ _ i k);
+      selects_so = λ z. refuses-none z;
+    }
+
+    module _ (k : u ≡ Accepted) where
+      pub asked-right : window_bad (request_window a.request) ≡ false
+      unfolding ask_rows
+      asked-right = passed (ask_rows a.request a.background target map) (sym i ∙ k) 0
+
+      -- and selected, and agreed over the selection
+      pub examined : {table : List ℕ} {r : Verdict} {w : Rect} → Selects a.scan.file a.starts a.any_scene table → w ≡ request_window a.request
+          → r ≡ first (agree_rows a.scan.file (chosen_in table) w a.request.pixel_type) → ExamineAnswered a target map table r
+      unfolding call_verdict verdict agree_rows
+      examined {table} {r} {w} s x j =
+          let agreed : r ≡ first (agree_rows a.scan.file (starts_select a.scan.file a.starts a.any_scene) (request_window a.request) a.request.pixel_type) =
+          rw (← x) (j ∙ ap first (rows_ext (tile_count a.scan.file) _ _ (λ k h. rw (s.as_asked k h)))) in
+          record {
+            verdict-is = then_next v r (checks a.scan) _ h e (then_next u r (ask_rows a.request a.background target map) _ i k agreed);
+            selects_so = λ z. s;
+          }
 
   pub call-sides : {table : List ℕ} (v : Verdict) → ExamineAnswered a target map table v → v ≡ Accepted
       → (a.request.width ≤ 65536) × (a.request.height ≤ 65536)
@@ -199,10 +192,10 @@ module _ (a : Asked) (t m : List ℕ) {table : List ℕ} {w : Rect} (v : Verdict
     covered-asked : c.covered ≡ ones (area (asked_window a)) m'
     covered-asked = d.covered-is ∙ ap (λ v. ones (area v) m') e
 
-    pub done : Answered k a t m t' m' (Ans.Done c.covered c.stored)
+    pub done : Answered k a t m t' m' (Ok c)
     unfolding answer target_after map_after
     done = record {
-      answer_is = rw (accepted, ← whole-call) (ap (λ n. Ans.Done n c.stored) covered-asked);
+      answer_is = rw (accepted, ← whole-call) (ap (λ n. Ok (counts n c.stored)) covered-asked);
       number_is = rw accepted;
       place_is = rw accepted;
       covered-is = rw (accepted, ← whole-call) covered-asked;
@@ -213,8 +206,8 @@ module _ (a : Asked) (t m : List ℕ) {table : List ℕ} {w : Rect} (v : Verdict
 
 -- ---- a refused call
 
-pub refused : {k : Kind} (a : Asked) (t m : List ℕ) {table : List ℕ} {n p : ℕ} (v : Verdict) → ExamineAnswered a (length t) (length m) table v → v ≡ Refused n p
-    → Answered k a t m t m (Ans.Refused n p)
+pub refused : {k : Kind} (a : Asked) (t m : List ℕ) {table : List ℕ} {r : Refusal} (v : Verdict) → ExamineAnswered a (length t) (length m) table v → v ≡ Err r
+    → Answered k a t m t m (Err r)
 unfolding answer target_after map_after
 refused a t m v x y =
     let z = sym x.verdict-is ∙ y in

@@ -7,10 +7,10 @@ use native.Mathlib.Omega.{arith}
 use native.Mathlib.Numerals.{add-one}
 use lib.ListN.{length, get_or}
 use lib.Dec.{eqb}
-use borrow.Author.Tests.{eq-eqb, ne_eqb, eqb-false, not-true, not-false}
+use borrow.Author.Tests.{eqb-false}
 use Rattle.format.specs.Directory.{tile_count, entry_place}
 use Rattle.plane.specs.declared.Rect.{Rect}
-use Rattle.keys.specs.Keys.{insert_key, Rising, Inserted}
+use Rattle.keys.specs.Keys.{insert_key, Rising}
 use Rattle.keys.proofs.KeyLaws.{rising-insert}
 use Rattle.subblocks.specs.Judged.{Listed}
 use Rattle.tiles.specs.FileTile.{rank_of, rectangle, meets}
@@ -44,21 +44,6 @@ keys-rising (suc n) bs table w h = go (takes_turn bs table w n) (keys-rising n b
         → Rising (cond b (insert_key (rank_of bs n (entry_place bs n)) (keys_below n bs table w)) (keys_below n bs table w))
     go true i = rising-insert (rank_of bs n (entry_place bs n)) (keys_below n bs table w) i (λ a. new a.0 a.1 a.2)
     go false i = i
-
--- ---- one entry more
-
-module _ {bs keys : List ℕ} {count k e : ℕ} {w : Rect} (r : AddRoom bs keys count k e w) where
-  pub add_none : e ≡ 0 → Added bs keys count k e w keys count
-  add_none h = record { size = r.size; most = omega arith; keys_are = rw (eq-eqb e 0 h) }
-
-  pub add_apart : (e ≡ 0 → ⊥) → (a : Rect) → a ≡ rectangle bs e → (m : Bool) → m ≡ meets a w → not m ≡ true → Added bs keys count k e w keys count
-  add_apart h a i m j o = let f : m ≡ false = not-true m o in record { size = r.size; most = omega arith; keys_are = rw (ne_eqb e 0 h, ← i, ← j, f) }
-
-  pub add-meeting : {keys' : List ℕ} → (e ≡ 0 → ⊥) → (a : Rect) → a ≡ rectangle bs e → (m : Bool) → m ≡ meets a w → not m ≡ false
-      → (x : ℕ) → x ≡ rank_of bs k e → Inserted count x keys keys' → Added bs keys count k e w keys' (count + 1)
-  add-meeting h a i m j o x s d =
-      let f : m ≡ true = not-false m o in
-      record { size = d.size_is ∙ r.size; most = omega arith; keys_are = rw (ne_eqb e 0 h, ← i, ← j, f, ← s) d.keys_are }
 
 -- ---- the loop
 

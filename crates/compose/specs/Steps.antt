@@ -1,18 +1,17 @@
 -- The steps of composing: a selection in a table, the keys of the tiles that take a turn, and the turns along them.
-use Rattle.std.specs.Prelude.{ℕ, zero, suc, ◌+◌, ◌%◌, ◌^◌, ◌≤◌, ◌<◌, ◌≡◌, List, [], ◌++◌, map, reverse, Bool, true, false, cond, not, length, get_or, take, eqb, ℤ}
+use Rattle.std.specs.Prelude.{ℕ, zero, suc, ◌+◌, ◌%◌, ◌^◌, ◌≤◌, ◌<◌, ◌≡◌, List, [], map, reverse, Bool, true, false, cond, not, length, get_or, take, eqb, ℤ}
 use Rattle.format.specs.Scan.{Scan, scan_of, block_file}
 use Rattle.format.specs.Choice.{Choice, asked_layer}
-use Rattle.format.specs.Checks.{first}
+use Rattle.format.specs.Checks.{Verdict, Accepted}
 use Rattle.format.specs.Entry.{pixel_type, pixel_bytes, file_position, is_pyramid}
 use Rattle.format.specs.Directory.{tile_count, entry_place}
 use Rattle.format.specs.Rules.{verdict, AcceptedFile}
 use Rattle.format.specs.declared.Release.{Release}
-use Rattle.format.specs.declared.Verdict.{Verdict}
-use Rattle.format.specs.declared.Verdict.TheVariants.{Accepted}
 use Rattle.plane.specs.Tiles.{Tile, area}
 use Rattle.plane.specs.Paint.{ones}
 use Rattle.plane.specs.Turns.{Painting, Kind, plain, quick, run, start, compose}
 use Rattle.plane.specs.Demand2.{Room}
+use Rattle.paint.specs.declared.Turn.{Turn}
 use Rattle.plane.specs.declared.Rect.{Rect}
 use Rattle.keys.specs.Keys.{insert_key, Rising}
 use Rattle.subblocks.specs.Judged.{Listed}
@@ -20,10 +19,9 @@ use Rattle.tiles.specs.FileTile.{rank_of, rectangle, meets, file_tile, tiles_bel
 use Rattle.tiles.specs.Painted.{PaintRoom, Painted}
 use Rattle.selection.specs.Select.{selects}
 use Rattle.selection.specs.Layer.{HasAskedLayer}
-use Rattle.question.specs.Question.{request_window, ask_rows, agree_rows}
 use Rattle.question.specs.Call.{Asked, call_verdict}
 use Rattle.question.specs.declared.WindowRequest.{WindowRequest}
-use Rattle.compose.specs.declared.Counts.{Counts}
+use Rattle.question.specs.declared.Counts.{Counts}
 
 -- ---- a selection: a table that has for each entry its place where it is chosen, else 0
 
@@ -91,10 +89,10 @@ pub record KeyRoom (t m : List ℕ) (sc : Scan) (starts : List ℤ) (table : Lis
       (asked_layer sc.file (key_place table key) starts) sc.release on w
 
 -- what its turn does
-pub record KeyPainted (t m : List ℕ) (sc : Scan) (starts : List ℤ) (table : List ℕ) (key : ℕ) (on : Bool) (w : Rect) (quick : Bool) (t' m' : List ℕ) (r : ℕ)
+pub record KeyPainted (t m : List ℕ) (sc : Scan) (starts : List ℤ) (table : List ℕ) (key : ℕ) (on : Bool) (w : Rect) (by : Turn) (t' m' : List ℕ) (r : ℕ)
     : Type 0 where
   pub painted : Painted t m sc.file (key_place table key) (block_file sc (key_place table key)) (file_position sc.file (key_place table key))
-      (asked_layer sc.file (key_place table key) starts) sc.release on w quick t' m' r
+      (asked_layer sc.file (key_place table key) starts) sc.release on w by t' m' r
 
 -- the tiles in the order of each kind's turns, along rising keys
 abbrev pub turn_order : Kind → List Tile → List Tile
@@ -105,22 +103,28 @@ turn_order quick l = reverse l
 abbrev pub HasAskedLayers : List ℕ → List ℤ → List ℕ → Type 0
 HasAskedLayers bs starts table = (k : ℕ) → k < tile_count bs → chosen_in table k ≡ true → HasAskedLayer bs (entry_place bs k) starts
 
--- what the turns along the first count keys may read and write: the table and the keys are those of a selection of the file's entries,
--- every tile that takes a turn has the asked type and layer, and the window has room
-pub record RunRoom (t m : List ℕ) (sc : Scan) (starts : List ℤ) (table keys : List ℕ) (count : ℕ) (w : Rect) (pixel : ℕ) : Type 0 where
+-- a key of an entry of the file whose tile takes a turn
+pub record TurnKey (bs table : List ℕ) (w : Rect) (n key : ℕ) : Type 0 where
+  pub within : key % 4096 < n
+  pub turn : takes_turn bs table w (key % 4096) ≡ true
+
+-- what the turns along these keys may read and write: the table is a selection of the file's entries, every tile that takes a turn has the asked type and
+-- layer, and the window has room
+pub record RunRoom (t m : List ℕ) (sc : Scan) (starts : List ℤ) (table keys : List ℕ) (w : Rect) (pixel : ℕ) : Type 0 where
   pub accepted : verdict sc ≡ Accepted
   pub chosen : Chosen sc.file table
   pub asked : HasAskedLayers sc.file starts table
-  pub gathered : Gathered (tile_count sc.file) sc.file table w keys count
+  pub few : length keys ≤ 4096
+  pub key : (i : ℕ) → i < length keys → TurnKey sc.file table w (tile_count sc.file) (get_or keys i 0)
   pub edges : Edges w
   pub room : Room w (pixel_bytes pixel) t m
   pub small : area w ≤ 4294967296
   pub typed : (k : ℕ) → k < tile_count sc.file → takes_turn sc.file table w k ≡ true → pixel_type sc.file (entry_place sc.file k) ≡ pixel
 
--- target, map and store count after the turns of these tiles, one after the other
-pub record RunDone (k : Kind) (t m : List ℕ) (ch : Choice) (keys : List ℕ) (count : ℕ) (w : Rect) (pixel : ℕ) (t' m' : List ℕ) (r : ℕ) : Type 0 where
+-- target, map and store count after the turns of the keys' tiles, one after the other
+pub record RunDone (k : Kind) (t m : List ℕ) (ch : Choice) (keys : List ℕ) (w : Rect) (pixel : ℕ) (t' m' : List ℕ) (r : ℕ) : Type 0 where
   pub run_is : ◌≡◌ {A = Painting} (record { target = t'; map = m'; stored = r })
-      (run k w (pixel_bytes pixel) (turn_order k (map (tile_of_key ch) (take count keys))) (record { target = t; map = m; stored = 0 }))
+      (run k w (pixel_bytes pixel) (map (tile_of_key ch) keys) (record { target = t; map = m; stored = 0 }))
 
 -- ---- the whole of painting an accepted selection
 
@@ -158,16 +162,7 @@ pub record Selects (bs : List ℕ) (starts : List ℤ) (any_scene : Bool) (table
   pub table_is : Chosen bs table
   pub as_asked : (k : ℕ) → k < tile_count bs → chosen_in table k ≡ starts_select bs starts any_scene k
 
--- the rows of 23, of 20 to 23, of all
-pub record AgreeAnswered (bs : List ℕ) (starts : List ℤ) (any_scene : Bool) (f : WindowRequest) (table : List ℕ) (r : Verdict) : Type 0 where
-  pub verdict-is : r ≡ first (agree_rows bs (starts_select bs starts any_scene) (request_window f) f.pixel_type)
-  pub selects_so : Selects bs starts any_scene table
-
-pub record AskAnswered (bs : List ℕ) (starts : List ℤ) (any_scene : Bool) (f : WindowRequest) (background : List ℕ) (target map : ℕ)
-    (table : List ℕ) (r : Verdict) : Type 0 where
-  pub verdict-is : r ≡ first (ask_rows f background target map ++ agree_rows bs (starts_select bs starts any_scene) (request_window f) f.pixel_type)
-  pub selects_so : r ≡ Accepted → Selects bs starts any_scene table
-
+-- all the rows
 pub record ExamineAnswered (a : Asked) (target map : ℕ) (table : List ℕ) (r : Verdict) : Type 0 where
   pub verdict-is : r ≡ call_verdict a target map
   pub selects_so : r ≡ Accepted → Selects a.scan.file a.starts a.any_scene table

@@ -1,15 +1,14 @@
 -- Bytes copied from one number up to another.
 use mathlib.Core.Path.{◌≡◌, sym, ◌∙◌}
-use Prim.Native.Nat.{ℕ, ◌≤◌, ◌<◌}
+use Prim.Native.Nat.{ℕ, ◌+◌, ◌≤◌, ◌<◌}
 use native.Mathlib.Omega.{arith}
 use mathlib.Core.List.{List}
 use mathlib.Core.Bool.{true, false, cond, ◌&&◌, and-false}
 use lib.Dec.{ltb, leb}
-use lib.ListN.{length, get_or}
-use lib.Seq.{ext_get_or}
+use lib.ListN.{length, get_or, set}
 use borrow.Author.Tests.{lt-ltb, le-ltb, le-leb, lt-leb}
-use Rattle.plane.proofs.Tests.{by-lt}
-use Rattle.plane.proofs.SumLaws.{tab-ext, tab-getD, length-tab, getD-tab}
+use Rattle.plane.proofs.Tests.{by-lt, ltb_next}
+use Rattle.plane.proofs.SumLaws.{tab-ext, tab-getD, tab-set, length-tab, getD-tab}
 use Rattle.copies.specs.Copied.{copied}
 
 -- ---- the numbers from a up to e
@@ -56,17 +55,8 @@ copied-below d s a e k l h = copied_at d s a e k l ∙ rw (range-below a e k h)
 pub copied-past : (d s : List ℕ) (a e k : ℕ) → k < length d → e ≤ k → get_or (copied d s a e) k 0 ≡ get_or d k 0
 copied-past d s a e k l h = copied_at d s a e k l ∙ rw (range-past a e k h)
 
--- a copy up to j, and on from there
-pub copied_on : (d s : List ℕ) (a j e : ℕ) → a ≤ j → j ≤ e → copied (copied d s a j) s j e ≡ copied d s a e
-copied_on d s a j e h h' =
-    ext_get_or 0 _ _ (copied-length _ s j e ∙ copied-length d s a j ∙ sym (copied-length d s a e))
-    (λ k c.
-    let l' : k < length (copied d s a j) = rw (copied-length (copied d s a j) s j e) at c in
-    let l : k < length d = rw (copied-length d s a j) at l' in
-    by-range j e k
-    (λ x. copied-below _ s j e k l' x
-    ∙ by-range a j k (λ y. copied-below d s a j k l y ∙ sym (copied-below d s a e k l y))
-    (λ y z. copied-in d s a j k l y z ∙ sym (copied-in d s a e k l y (omega arith)))
-    (λ y. absurd (omega arith)))
-    (λ x y. copied-in _ s j e k l' x y ∙ sym (copied-in d s a e k l (omega arith) y))
-    (λ x. copied-past _ s j e k l' x ∙ copied-past d s a j k l (omega arith) ∙ sym (copied-past d s a e k l x)))
+-- one byte more
+pub copied_more : (d s : List ℕ) (a k : ℕ) → a ≤ k → k < length d → set (copied d s a k) k (get_or s k 0) ≡ copied d s a (k + 1)
+unfolding copied
+copied_more d s a k h l =
+    tab-set (length d) _ _ k (get_or s k 0) l (rw (range-in a (k + 1) k h (omega arith))) (λ i b n. rw (ltb_next i k n))

@@ -9,11 +9,12 @@ use native.Mathlib.Omega.{arith}
 use lib.Dec.{ltb}
 use lib.IntN.{pos, ◌-ℤ◌}
 use borrow.Author.Tests.{lt-ltb, ltb-true, ltb-false}
+use Rattle.std.specs.Prelude.{Some}
 use Rattle.format.specs.Bytes.{any_below, biased, shifted, signed32}
 use Rattle.format.specs.Entry.{is_pyramid, letter_place}
 use Rattle.format.specs.Directory.{tile_count, entry_place}
 use Rattle.format.specs.Rules.{verdict, AcceptedFile}
-use Rattle.format.specs.declared.Verdict.TheVariants.{Accepted}
+use Rattle.format.specs.Checks.{Accepted}
 use Rattle.format.proofs.Below.{any_found}
 use Rattle.judge.proofs.AcceptedFile.{accepted-under}
 use Rattle.plane.specs.Tiles.{covers, covered}
@@ -22,9 +23,7 @@ use Rattle.plane.proofs.Partitions.{covers-inside, inside-covers, within_same}
 use Rattle.selection.specs.Select.{selects}
 use Rattle.tiles.specs.FileTile.{rectangle}
 use Rattle.question.specs.Call.{Asked, chosen, selected}
-use Rattle.listing.specs.Summary.{plain, greatest_of, near_edge, far_edge, left, top, right, bottom, unshifted, bounds_of, summary_of}
-use Rattle.listing.specs.Figures.{corners_below}
-use Rattle.listing.specs.declared.Bounds.TheVariants.{Box}
+use Rattle.listing.specs.Summary.{plain, greatest_of, near_edge, far_edge, left, top, right, bottom, unshifted, tile_box, bounds_of, summary_of}
 use Rattle.listing.proofs.Boxes.{least_at, corners-held}
 use Rattle.counting.specs.Claims.{box_of, summary_box, Holds, AllBoxed}
 use Rattle.counting.proofs.Uses.{selected-by}
@@ -77,7 +76,7 @@ chosen_plain a k h = go (is_pyramid a.scan.file (entry_place a.scan.file k)) _ h
 
 -- the box by its corners as they are compared
 pub record Cornered (bs : List ℕ) : Type 0 where
-  pub box-is : (summary_of bs).bounds ≡ Box (unshifted (left bs)) (unshifted (top bs)) (unshifted (right bs)) (unshifted (bottom bs))
+  pub box-is : (summary_of bs).bounds ≡ Some (tile_box (left bs) (top bs) (right bs) (bottom bs))
   pub left_is : shifted (unshifted (left bs)) ≡ left bs
   pub top-is : shifted (unshifted (top bs)) ≡ top bs
   pub right_is : shifted (unshifted (right bs)) ≡ right bs
@@ -88,13 +87,13 @@ module _ (bs : List ℕ) (h : AcceptedFile bs) (k : ℕ) (l : k < tile_count bs)
   some-plain = any_found (tile_count bs) k (plain bs) l p
 
   cornered : Cornered bs
-  unfolding summary_of bounds_of corners_below left top right bottom
+  unfolding summary_of bounds_of
   cornered =
-      let c = corners-held bs h in
+      let c = corners-held bs h some-plain in
       record {
         box-is = rw some-plain;
-        left_is = corner-back _ (c.left_fits some-plain);
-        top-is = corner-back _ (c.top_fits some-plain);
+        left_is = corner-back _ c.left_fits;
+        top-is = corner-back _ c.top_fits;
         right_is = corner-back _ c.right_fits;
         bottom-is = corner-back _ c.bottom_fits;
       }

@@ -2,7 +2,7 @@
 use Prim.Native.Nat.{ℕ, ◌+◌, ◌^◌, ◌≤◌, ◌<◌}
 use mathlib.Core.Path.{◌≡◌, refl, ◌∙◌}
 use mathlib.Core.List.{List}
-use mathlib.Core.Bool.{Bool, true, false, cond, not, ◌&&◌, and-false}
+use mathlib.Core.Bool.{Bool, true, false, cond, not, ◌&&◌}
 use native.Mathlib.Omega.{arith}
 use native.Mathlib.Numerals.{add-one}
 use lib.ListN.{length, get_or, set}
@@ -11,7 +11,8 @@ use lib.IntN.{ℤ}
 use lib.Signed.{mag}
 use mir.Syntax.{w32}
 use mir.Val.{of_z, to_z}
-use borrow.Author.Tests.{lt-ltb, le-ltb, le-leb, lt-leb, not-true, not-false}
+use borrow.Author.Tests.{lt-ltb, le-ltb, not-true, not-false}
+use Rattle.std.specs.Int.{from_bool}
 use Rattle.format.specs.Bytes.{shifted}
 use Rattle.format.specs.Entry.{next_entry}
 use Rattle.format.specs.Directory.{tile_count, entry_place}
@@ -28,25 +29,10 @@ use Rattle.plane.proofs.Tests.{ltb_next}
 use Rattle.plane.proofs.SumLaws.{count-le, tab-ext, tab-set, tab-getD, length-tab}
 use Rattle.selection.specs.Select.{selects}
 use Rattle.subblocks.specs.Judged.{Listed}
-use Rattle.tiles.specs.FileTile.{rectangle, meets}
+use Rattle.tiles.specs.FileTile.{rectangle}
 use Rattle.tiles.proofs.Rectangles.{read-edges}
 use Rattle.question.specs.Question.{window_of}
 use Rattle.counting.specs.Chosen.{Sought, seek, shares, selects_at, meets_at, mark_at, counts_below, marks_below, TilesMarked}
-
--- ---- a window without a pixel shares none
-
-module _ (a w : Rect) where
-  pub no-column : w.width ≡ 0 → false ≡ shares a w
-  unfolding shares
-  no-column h = rw h
-
-  pub no_row : w.height ≡ 0 → false ≡ shares a w
-  unfolding shares
-  no_row h = rw (h, and-false)
-
-  pub some-pixel : (w.width ≡ 0 → ⊥) → (w.height ≡ 0 → ⊥) → (m : Bool) → m ≡ meets a w → m ≡ shares a w
-  unfolding shares
-  some-pixel h i m e = rw (lt-ltb 0 w.width (omega arith), lt-ltb 0 w.height (omega arith)) e
 
 -- ---- the mark of the tile of the entry at e, under every release: p says whether it is selected, m whether its rectangle a shares a pixel with the window
 
@@ -80,11 +66,13 @@ module _ (left top : ℤ) (width height : ℕ) (l : mag left < 2 ^ 31) (t : mag 
 
 -- ---- what a mark counts for
 
-pub one-yes : (n m : ℕ) → n ≤ m → 1 ≡ one (leb n m)
-one-yes n m h = rw (le-leb n m h)
+number-is : (b : Bool) → from_bool b ≡ one b
+number-is true = refl
+number-is false = refl
 
-pub one-no : (n m : ℕ) → m < n → 0 ≡ one (leb n m)
-one-no n m h = rw (lt-leb n m h)
+number-few : (b : Bool) → from_bool b ≤ 1
+number-few true = omega arith
+number-few false = omega arith
 
 pub marked-selected : (q : Sought) (e : ℕ) → leb 1 (mark_at q e) ≡ selects_at q e
 unfolding mark_at meets_at
@@ -162,15 +150,15 @@ module _ (bs : List ℕ) (starts : List ℤ) (any_scene : Bool) (w : Rect) (befo
     pub marking-room : k < n → k < length t
     marking-room h = omega (arith, marking-size, i.room)
 
-    -- the counts fit, by any release, here 1.2: v is what the mark adds
-    module _ (v : ℕ) (f : v ≤ 1) (h : k < n) where
+    -- the counts fit, by any release, here 1.2: v is what a test of the mark adds
+    module _ (v : ℕ) (b : Bool) (f : v ≡ from_bool b) (h : k < n) where
       pub selected-most : selected + v ≤ n
-      selected-most = omega (arith, f, (i.marked R12).selected-is, few-selected (q R12) k)
+      selected-most = omega (arith, number-few b, (i.marked R12).selected-is, few-selected (q R12) k)
 
       pub meeting-most : meeting + v ≤ n
-      meeting-most = omega (arith, f, (i.marked R12).meeting-is, few-meeting (q R12) k)
+      meeting-most = omega (arith, number-few b, (i.marked R12).meeting-is, few-meeting (q R12) k)
 
-    pub marking-next : (v x y p : ℕ) → k < n → ((rel : Release) → v ≡ mark_at (q rel) e) → x ≡ one (leb 1 v) → y ≡ one (leb 2 v) → p ≡ next_entry bs e
+    pub marking-next : (v x y p : ℕ) → k < n → ((rel : Release) → v ≡ mark_at (q rel) e) → x ≡ from_bool (leb 1 v) → y ≡ from_bool (leb 2 v) → p ≡ next_entry bs e
         → Marking bs starts any_scene w before (set t k v) n p (selected + x) (meeting + y) (k + 1)
     unfolding marks_below counts_below sum
     marking-next v x y p h f fx fy g = record {
@@ -179,8 +167,8 @@ module _ (bs : List ℕ) (starts : List ℤ) (any_scene : Bool) (w : Rect) (befo
       at = at_next bs n e k i.at p h g;
       marked = λ rel. record {
         marks-are = rw (i.marked rel).marks-are (tab-set (length before) _ _ k v (omega (arith, i.room)) (here rel) (others rel));
-        selected-is = rw (add-one, (i.marked rel).selected-is, fx, f rel, marked-selected (q rel) e, i.at.place);
-        meeting-is = rw (add-one, (i.marked rel).meeting-is, fy, f rel, marked-meeting (q rel) e, i.at.place);
+        selected-is = rw (add-one, (i.marked rel).selected-is, fx, number-is (leb 1 v), f rel, marked-selected (q rel) e, i.at.place);
+        meeting-is = rw (add-one, (i.marked rel).meeting-is, fy, number-is (leb 2 v), f rel, marked-meeting (q rel) e, i.at.place);
       };
     }
       where

@@ -9,7 +9,7 @@ use Rattle.format.specs.Scan.{Scan}
 use Rattle.format.specs.Directory.{tile_count}
 use Rattle.format.specs.Records.{tile_entry}
 use Rattle.format.specs.Rules.{verdict}
-use Rattle.format.specs.declared.Verdict.TheVariants.{Accepted}
+use Rattle.format.specs.Checks.{Accepted}
 use Rattle.format.proofs.Below.{and_both}
 use Rattle.judge.proofs.AcceptedFile.{tiled}
 use Rattle.plane.specs.declared.Rect.{Rect}

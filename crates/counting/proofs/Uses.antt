@@ -11,7 +11,8 @@ use Rattle.format.specs.Choice.{Choice}
 use Rattle.format.specs.Directory.{tile_count}
 use Rattle.format.specs.Records.{tile_entry}
 use Rattle.format.proofs.Below.{and_both}
-use Rattle.format.specs.declared.Verdict.TheVariants.{Accepted}
+use Rattle.format.proofs.Firsts.{by-verdict}
+use Rattle.format.specs.Checks.{Accepted}
 use Rattle.plane.specs.Sums.{one, sum, count}
 use Rattle.plane.specs.Tiles.{covers, covered, within}
 use Rattle.plane.specs.Turns.{Kind}
@@ -20,7 +21,7 @@ use Rattle.plane.proofs.Tests.{by_bool}
 use Rattle.plane.proofs.Partitions.{within_none}
 use Rattle.tiles.specs.FileTile.{rectangle, entry_tile, file_tile, tiles_below}
 use Rattle.question.specs.Call.{Asked, choice_of, chosen, call_verdict, asked_window, selected, answer, covered_in}
-use Rattle.question.proofs.Calls.{decide, room, runs, covered-is}
+use Rattle.question.proofs.Calls.{room, runs, covered-is}
 use Rattle.counting.specs.Chosen.{selects_at, meets_at, counts_below, counts_of}
 use Rattle.counting.specs.Claims.{sought_in, AllUsed}
 use Rattle.counting.proofs.Sharing.{shared-shares}
@@ -118,7 +119,7 @@ count-is a k t m e = covered-is a t m e k ∙ (runs a t m e).covered-is k (asked
 counts-none : (a : Asked) → (counts_of (sought_in a (asked_window a))).meeting ≡ 0 → (k : Kind) (t m : List ℕ) → covered_in (answer k a t m) ≡ 0
 unfolding answer
 counts-none a z k t m =
-    decide (call_verdict a (length t) (length m)) (λ e. count-is a k t m e ∙ covers-none a (asked_window a) z) (λ n p e. rw e)
+    by-verdict (call_verdict a (length t) (length m)) (λ e. count-is a k t m e ∙ covers-none a (asked_window a) z) (λ r e. rw e)
 
 pub all-used : AllUsed
 all-used a = record { selected_are = as-selected a; none_covered = covers-none a; none_counted = counts-none a }

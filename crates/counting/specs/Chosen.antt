@@ -1,21 +1,19 @@
 -- Which tiles a question selects, which of them share a pixel with its window, and how many: by the definitions that the composers use.
-use Rattle.std.specs.Prelude.{ℕ, ◌≡◌, List, [], ◌∷◌, ◌++◌, Bool, cond, ◌&&◌, length, get_or, ltb, ℤ}
+use Rattle.std.specs.Prelude.{ℕ, ◌≡◌, List, [], ◌∷◌, ◌++◌, Bool, cond, ◌&&◌, Result, length, get_or, ltb, ℤ}
 use Rattle.format.specs.Scan.{Scan, scan_of}
-use Rattle.format.specs.Checks.{row, first, number_of, place_of, if_accepted}
+use Rattle.format.specs.Checks.{Verdict, row, first, number_of, place_of, if_accepted, answer_if, verdict_in, value_in}
 use Rattle.format.specs.Directory.{tile_count}
 use Rattle.format.specs.Records.{tile_entry}
 use Rattle.format.specs.Rules.{checks}
 use Rattle.format.specs.declared.Release.{Release}
-use Rattle.format.specs.declared.Verdict.{Verdict}
-use Rattle.format.specs.declared.Verdict.TheVariants as Is
+use Rattle.format.specs.declared.Fault.TheVariants as Fault
+use Rattle.format.specs.declared.Refusal.{Refusal}
 use Rattle.plane.specs.Sums.{count, tab}
 use Rattle.plane.specs.declared.Rect.{Rect}
 use Rattle.selection.specs.Select.{selects}
 use Rattle.tiles.specs.FileTile.{rectangle, meets}
 use Rattle.question.specs.Question.{window_of}
 use Rattle.counting.specs.declared.ChosenCounts.{ChosenCounts}
-use Rattle.counting.specs.declared.ChosenAnswer.{ChosenAnswer}
-use Rattle.counting.specs.declared.ChosenAnswer.TheVariants as Ans
 
 -- ---- what is asked
 
@@ -76,32 +74,16 @@ pub record TilesMarked (bs : List ℕ) (starts : List ℤ) (any_scene : Bool) (w
 
 -- the refusals in their order: the file's own, then 22 where fewer marks are lent than there are tiles
 unfoldable pub chosen_verdict : Sought → ℕ → Verdict
-chosen_verdict q lent = first (checks q.scan ++ (row 22 0 (ltb lent (tile_count q.scan.file)) ∷ []))
+chosen_verdict q lent = first (checks q.scan ++ (row Fault.LentTooShort 0 (ltb lent (tile_count q.scan.file)) ∷ []))
 
-abbrev pub chosen_if : Verdict → ChosenCounts → ChosenAnswer
-chosen_if Is.Accepted c = Ans.Found c
-chosen_if (Is.Refused n p) c = Ans.Refused n p
-
--- the paper's number, place and counts of each answer: a refusal gives counts 0
-abbrev pub number_in : ChosenAnswer → ℕ
-number_in (Ans.Found c) = 0
-number_in (Ans.Refused n p) = n
-
-abbrev pub place_in : ChosenAnswer → ℕ
-place_in (Ans.Found c) = 0
-place_in (Ans.Refused n p) = p
-
+-- what a refusal counts
 abbrev pub no_counts : ChosenCounts
 no_counts = record { selected = 0; meeting = 0 }
 
-abbrev pub counts_in : ChosenAnswer → ChosenCounts
-counts_in (Ans.Found c) = c
-counts_in (Ans.Refused n p) = no_counts
-
 -- the promise: the answer r, its number, place and counts, and the marks in the end, which are as they were lent where it refuses
-pub record ChosenAnswered (q : Sought) (before after : List ℕ) (r : ChosenAnswer) : Type 0 where
-  pub answer_is : r ≡ chosen_if (chosen_verdict q (length before)) (counts_of q)
-  pub number_is : number_in r ≡ number_of (chosen_verdict q (length before))
-  pub place_is : place_in r ≡ place_of (chosen_verdict q (length before))
-  pub counts_are : counts_in r ≡ if_accepted (chosen_verdict q (length before)) (counts_of q) no_counts
+pub record ChosenAnswered (q : Sought) (before after : List ℕ) (r : Result ChosenCounts Refusal) : Type 0 where
+  pub answer_is : r ≡ answer_if (chosen_verdict q (length before)) (counts_of q)
+  pub number_is : number_of (verdict_in r) ≡ number_of (chosen_verdict q (length before))
+  pub place_is : place_of (verdict_in r) ≡ place_of (chosen_verdict q (length before))
+  pub counts_are : value_in no_counts r ≡ if_accepted (chosen_verdict q (length before)) (counts_of q) no_counts
   pub marks-are : after ≡ if_accepted (chosen_verdict q (length before)) (marks_of q before) before

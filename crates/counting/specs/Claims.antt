@@ -1,20 +1,19 @@
 -- What a count of covered pixels rests on: the marks, sharing a pixel, the composers' own selection, and the summary's box.
-use Rattle.std.specs.Prelude.{ℕ, ◌-◌, ◌≤◌, ◌<◌, ◌≡◌, ◌↔◌, List, true, length, get_or, eqb, ltb}
+use Rattle.std.specs.Prelude.{ℕ, ◌-◌, ◌≤◌, ◌<◌, ◌≡◌, ◌↔◌, List, true, Option, Some, None, length, get_or, eqb, ltb}
 use Rattle.format.specs.Scan.{Scan}
 use Rattle.format.specs.Bytes.{shifted}
 use Rattle.format.specs.Directory.{tile_count}
 use Rattle.format.specs.Records.{tile_entry}
 use Rattle.format.specs.Rules.{verdict}
-use Rattle.format.specs.declared.Verdict.TheVariants.{Accepted}
+use Rattle.format.specs.Checks.{Accepted}
 use Rattle.plane.specs.Sums.{count}
 use Rattle.plane.specs.Tiles.{covers, covered, within}
 use Rattle.plane.specs.Turns.{Kind}
 use Rattle.plane.specs.declared.Rect.{Rect}
 use Rattle.tiles.specs.FileTile.{rectangle, meets}
 use Rattle.question.specs.Call.{Asked, chosen, asked_window, selected, answer, covered_in}
-use Rattle.listing.specs.Summary.{left, top, right, bottom, unshifted, summary_of}
-use Rattle.listing.specs.declared.Bounds.{Bounds}
-use Rattle.listing.specs.declared.Bounds.TheVariants.{Nothing, Box}
+use Rattle.listing.specs.Summary.{left, top, right, bottom, tile_box, summary_of}
+use Rattle.listing.specs.declared.TileBox.{TileBox}
 use Rattle.counting.specs.Chosen.{Sought, shares, selects_at, meets_at, mark_at, counts_of, marks_of}
 
 -- ---- the marks
@@ -75,9 +74,10 @@ AllUsed = (a : Asked) → Used a
 -- ---- the summary's box holds every selected tile
 
 -- the box that a summary answers as a rectangle in plane coordinates, right and bottom being exclusive: no pixel where there is no box
-abbrev pub box_of : Bounds → Rect
-box_of (Box l t r b) = record { left = shifted l; top = shifted t; width = shifted r - shifted l; height = shifted b - shifted t }
-box_of Nothing = record { left = 0; top = 0; width = 0; height = 0 }
+abbrev pub box_of : Option TileBox → Rect
+box_of (Some b) =
+    record { left = shifted b.left; top = shifted b.top; width = shifted b.right - shifted b.left; height = shifted b.bottom - shifted b.top }
+box_of None = record { left = 0; top = 0; width = 0; height = 0 }
 
 abbrev pub summary_box : Scan → Rect
 summary_box sc = box_of (summary_of sc.file).bounds
@@ -89,8 +89,7 @@ Holds w a = (u v : ℕ) → covers a u v ≡ true → covers w u v ≡ true
 pub record Boxed (a : Asked) : Type 0 where
   -- where a tile is selected there is a box, with the corners of all tiles that aren't pyramid tiles
   pub some : (k : ℕ) → k < tile_count a.scan.file → chosen a k ≡ true
-      → (summary_of a.scan.file).bounds
-      ≡ Box (unshifted (left a.scan.file)) (unshifted (top a.scan.file)) (unshifted (right a.scan.file)) (unshifted (bottom a.scan.file))
+      → (summary_of a.scan.file).bounds ≡ Some (tile_box (left a.scan.file) (top a.scan.file) (right a.scan.file) (bottom a.scan.file))
   -- it holds every selected tile
   pub holds : (k : ℕ) → k < tile_count a.scan.file → chosen a k ≡ true → Holds (summary_box a.scan) (rectangle a.scan.file (tile_entry a.scan k))
   -- and so every covered pixel

@@ -1,7 +1,7 @@
 -- The covered counts of the parts of a box, each by a call of its own, add up.
 use Rattle.std.specs.Prelude.{ℕ, ◌+◌, ◌≡◌, ◌⊎◌, List, [], ◌∷◌, length, ℤ}
 use Rattle.format.specs.Rules.{verdict}
-use Rattle.format.specs.declared.Verdict.TheVariants.{Accepted}
+use Rattle.format.specs.Checks.{Accepted}
 use Rattle.plane.specs.Tiles.{covered, within}
 use Rattle.plane.specs.Turns.{Kind}
 use Rattle.plane.specs.Partition.{Partition}

@@ -5,12 +5,11 @@ ghost use Rattle.std.specs.Prelude.{◌≡◌, ◌+◌, ◌≤◌, ◌<◌, ◌^
 ghost use Rattle.format.specs.Directory.{tile_count};
 ghost use Rattle.format.specs.Rules.{AcceptedFile};
 ghost use Rattle.format.specs.declared.Release.{Release};
-ghost use Rattle.plane.specs.Sums.{one};
 ghost use Rattle.subblocks.specs.Judged.{Listed};
 ghost use Rattle.question.specs.Question.{window_of};
 ghost use Rattle.counting.specs.Chosen.{shares, mark_at, sought, seek, TilesMarked, ChosenAnswered};
 
-use format::{Release, Verdict};
+use format::{Fault, Refusal, Release};
 use plane::Rect;
 
 // How many tiles a question selects, and how many of those share a pixel with its window.
@@ -20,53 +19,31 @@ pub struct ChosenCounts {
     pub meeting: u64,
 }
 
-// What is answered to a question for them.
-#[derive(Clone, Copy)]
-pub enum ChosenAnswer {
-    Found(ChosenCounts),
-    Refused { number: u64, place: u64 },
-}
-
 // ---- one tile
 
 // Whether the rectangle a and the window w share a pixel. A window without a pixel shares none.
+#[tactic(auto, using(format::proofs::Flags::flags), unfolding(crate::specs::Chosen::shares))]
 fn shares_pixel(a: Rect, w: Rect) -> bool
     requires { (a.left + a.width < 2 ^ 64) × (a.top + a.height < 2 ^ 64) × (w.left + w.width < 2 ^ 64) × (w.top + w.height < 2 ^ 64) }
     ensures { result ≡ shares a w }
 {
-    if w.width == 0 {
-        return false;
-    }
-    if w.height == 0 {
-        return false;
-    }
-    tiles::meets_window(a, w)
+    w.width != 0 && w.height != 0 && tiles::meets_window(a, w)
 }
 
 // The mark of the tile of the entry at e, under every release: 0 not selected, 1 selected, 2 selected and it shares a pixel with the window.
+// A byte and not an enum, since C lends the marks and reads them.
 fn mark_at(s: &[u8], e: u64, starts: &[i32], any_scene: bool, w: Rect) -> u8
     requires listed { Listed s.now e }
     requires width_bound { (w.left + w.width < 2 ^ 64) × (w.top + w.height < 2 ^ 64) }
     ensures { (rel : Release) → result ≡ mark_at (seek s.now rel starts.now any_scene w) e }
 {
     if !selection::is_selected(s, e, starts, any_scene) {
-        return 0;
+        0
+    } else if !shares_pixel(tiles::rectangle_of(s, e), w) {
+        1
+    } else {
+        2
     }
-    let a = tiles::rectangle_of(s, e);
-    if !shares_pixel(a, w) {
-        return 1;
-    }
-    2
-}
-
-// 1 for a mark of at least n, 0 for a lesser one.
-fn one_from(n: u8, mark: u8) -> u64
-    ensures { (result ≡ one (leb n mark)) × (result ≤ 1) }
-{
-    if n <= mark {
-        return 1;
-    }
-    0
 }
 
 // ---- all of them
@@ -75,11 +52,9 @@ fn one_from(n: u8, mark: u8) -> u64
 fn window_of(left: i32, top: i32, width: u32, height: u32) -> Rect
     ensures { (result ≡ window_of left top width height) × (result.left + result.width < 2 ^ 33) × (result.top + result.height < 2 ^ 33) }
 {
-    let x = fields::shifted_of(left);
-    let y = fields::shifted_of(top);
     Rect {
-        left: x as usize,
-        top: y as usize,
+        left: fields::shifted_of(left) as usize,
+        top: fields::shifted_of(top) as usize,
         width: width as usize,
         height: height as usize,
     }
@@ -95,14 +70,12 @@ fn mark_all(s: &[u8], starts: &[i32], any_scene: bool, w: Rect, marks: &mut [u8]
     let mut e = directory::first_entry(s);
     let mut selected: u64 = 0;
     let mut meeting: u64 = 0;
-    let mut k: u64 = 0;
-    while k < n {
+    for k in 0..n {
         let mark = mark_at(s, e, starts, any_scene, w);
         marks[k as usize] = mark;
-        selected += one_from(1, mark);
-        meeting += one_from(2, mark);
+        selected += u64::from(1 <= mark);
+        meeting += u64::from(2 <= mark);
         e = entries::next_entry(s, e);
-        k += 1;
     }
     ChosenCounts { selected, meeting }
 }
@@ -119,21 +92,16 @@ pub fn chosen(
     width: u32,
     height: u32,
     marks: &mut [u8],
-) -> ChosenAnswer
+) -> Result<ChosenCounts, Refusal>
     ensures { ChosenAnswered (sought s.now release starts.now any_scene left top width height) marks.old marks.new result }
 {
-    let v = judge::judge(s, release);
-    match v {
-        Verdict::Refused { number, place } => ChosenAnswer::Refused { number, place },
-        Verdict::Accepted => {
-            if (marks.len() as u64) < judge::tile_count(s) {
-                return ChosenAnswer::Refused {
-                    number: 22,
-                    place: 0,
-                };
-            }
-            let w = window_of(left, top, width, height);
-            ChosenAnswer::Found(mark_all(s, starts, any_scene, w, marks))
-        }
+    judge::judge(s, release)?;
+    if (marks.len() as u64) < judge::tile_count(s) {
+        return Err(Refusal {
+            fault: Fault::LentTooShort,
+            place: 0,
+        });
     }
+    let w = window_of(left, top, width, height);
+    Ok(mark_all(s, starts, any_scene, w, marks))
 }

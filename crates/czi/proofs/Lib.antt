@@ -1,4 +1,3 @@
 -- Laws of the answers to C.
-pub mod Low
-pub mod Marks
 pub mod Out
+pub mod Marks

@@ -1,9 +1,9 @@
 -- What each kind of function for C gives: the number that it returns, what stands behind its out-pointers in the end, and in lent arrays.
-use Rattle.std.specs.Prelude.{ℕ, ◌-◌, ◌≡◌, List, ◌++◌, length, replicate, ℤ}
-use Rattle.format.specs.Checks.{number_of, place_of, if_accepted}
+use Rattle.std.specs.Prelude.{ℕ, ◌-◌, ◌≡◌, List, ◌++◌, length, replicate, ℤ, is_some, unwrap_or}
+use Rattle.std.specs.Int.{from_bool}
+use Rattle.format.specs.Checks.{Verdict, number_of, place_of, if_accepted}
 use Rattle.format.specs.Attachments.{attachment_guid, attachment_type, attachment_name}
 use Rattle.format.specs.Answers.{no_dimension, no_attachment}
-use Rattle.format.specs.declared.Verdict.{Verdict}
 use Rattle.format.specs.declared.Span.{Span}
 use Rattle.format.specs.declared.Tile.{Tile}
 use Rattle.format.specs.declared.Dimension.{Dimension}
@@ -11,7 +11,7 @@ use Rattle.format.specs.declared.Attachment.{Attachment}
 use Rattle.listing.specs.Summary.{no_summary}
 use Rattle.listing.specs.declared.Summary.{Summary}
 use Rattle.tables.specs.Numbers.{tile_numbers, tile_starts}
-use Rattle.czi.specs.Numbers.{box_numbers}
+use Rattle.czi.specs.Numbers.{no_box}
 
 -- the interface's number: it rises with every changed signature or array length
 abbrev pub interface_number : ℕ
@@ -70,11 +70,11 @@ pub record SummaryOut (v : Verdict) (s : Summary) (number place bytes segments t
   pub segments-are : segments ≡ (if_accepted v s no_summary).segments
   pub tiles_are : tiles ≡ (if_accepted v s no_summary).tiles
   pub attachments_are : attachments ≡ (if_accepted v s no_summary).attachments
-  pub box-is : box ≡ (box_numbers (if_accepted v s no_summary).bounds).some
-  pub left_is : left ≡ (box_numbers (if_accepted v s no_summary).bounds).left
-  pub top-is : top ≡ (box_numbers (if_accepted v s no_summary).bounds).top
-  pub right_is : right ≡ (box_numbers (if_accepted v s no_summary).bounds).right
-  pub bottom-is : bottom ≡ (box_numbers (if_accepted v s no_summary).bounds).bottom
+  pub box-is : box ≡ from_bool (is_some (if_accepted v s no_summary).bounds)
+  pub left_is : left ≡ (unwrap_or (if_accepted v s no_summary).bounds no_box).left
+  pub top-is : top ≡ (unwrap_or (if_accepted v s no_summary).bounds no_box).top
+  pub right_is : right ≡ (unwrap_or (if_accepted v s no_summary).bounds no_box).right
+  pub bottom-is : bottom ≡ (unwrap_or (if_accepted v s no_summary).bounds no_box).bottom
 
 -- a text, in 192 bytes, which are 0 behind it
 pub record TextOut (l : List ℕ) (count : ℕ) (text : List ℕ) : Type 0 where

@@ -1,7 +1,8 @@
 -- What a quote is asked by the numbers of a call for C, and what it answers.
 use Rattle.std.specs.Prelude.{ℕ, ◌≡◌, List, not, eqb, ℤ}
 use Rattle.plane.specs.Turns.{Kind}
-use Rattle.quote.specs.Quote.{QuoteAsked, quoted, quote_target, quote_map, quote_sheet, number_in, place_in, quoted_covered, quoted_length}
+use Rattle.quote.specs.Quote.{QuoteAsked, quoted, quote_target, quote_map, quote_sheet, quoted_covered, quoted_length}
+use Rattle.question.specs.Call.{number_in, place_in}
 use Rattle.quote.specs.Steps.{quote_asked}
 use Rattle.quote.specs.declared.QuoteRequest.{QuoteRequest}
 use Rattle.czi.specs.Lent.{release_of}

@@ -1,23 +1,25 @@
 // The composers, asked by numbers.
-ghost use Rattle.std.specs.Prelude.{◌≡◌, ◌≤◌};
+ghost use Rattle.std.specs.Prelude.{◌≡◌};
+ghost use Rattle.format.specs.Checks.{verdict_in};
 ghost use Rattle.plane.specs.Turns.{plain, quick};
-ghost use Rattle.question.specs.Call.{number_in, place_in, covered_in, stored_in};
+ghost use Rattle.question.specs.Call.{covered_in, stored_in};
 ghost use Rattle.czi.specs.Plane.{choice_of, request_of, plane_asked, PlaneOut};
+ghost use Rattle.czi.specs.Out.{VerdictOut};
 
-use crate::verdict::release_of;
-use question::{Composed, Masks, WindowRequest};
+use crate::verdict::{number_in, place_in, release_of};
+use format::Refusal;
+use question::{Counts, Masks, WindowRequest};
 
 // The masks choice of a number: 1 on, 2 off, any other not chosen.
+#[tactic(auto, using(format::proofs::Flags::flags), unfolding(crate::specs::Plane::choice_of))]
 fn choice_of(masks: u32) -> Masks
     ensures { result ≡ choice_of masks }
 {
-    if masks == 1 {
-        return Masks::On;
+    match masks {
+        1 => Masks::On,
+        2 => Masks::Off,
+        _ => Masks::NotChosen,
     }
-    if masks == 2 {
-        return Masks::Off;
-    }
-    Masks::NotChosen
 }
 
 // The question but for its starts and the background.
@@ -31,68 +33,37 @@ fn request_of(
 ) -> WindowRequest
     ensures { result ≡ request_of pixel_type left top width height masks }
 {
-    let choice = choice_of(masks);
     WindowRequest {
-        pixel_type: pixel_type as u64,
+        pixel_type: u64::from(pixel_type),
         left,
         top,
-        width: width as u64,
-        height: height as u64,
-        masks: choice,
+        width: u64::from(width),
+        height: u64::from(height),
+        masks: choice_of(masks),
     }
 }
 
-// The number of a composer's refusal, 0 where there is none.
-fn composed_number(c: Composed) -> u32
-    requires { number_in c ≤ 30 }
-    ensures { result ≡ number_in c }
-{
-    match c {
-        Composed::Done {
-            covered: _,
-            stored: _,
-        } => 0,
-        Composed::Refused { number, place: _ } => number as u32,
-    }
-}
+// What stands for the counts where a call is refused.
+const NO_COUNTS: Counts = Counts {
+    covered: 0,
+    stored: 0,
+};
 
-// Its place, 0 where there is none.
-fn composed_place(c: Composed) -> u64
-    ensures { result ≡ place_in c }
+// What a composer answered.
+fn tell_counts(
+    answer: Result<Counts, Refusal>,
+    place: &mut u64,
+    covered: &mut u64,
+    stored: &mut u64,
+) -> u32
+    ensures refusal { VerdictOut (verdict_in answer) result place.new }
+    ensures counts { (covered.new ≡ covered_in answer) × (stored.new ≡ stored_in answer) }
 {
-    match c {
-        Composed::Done {
-            covered: _,
-            stored: _,
-        } => 0,
-        Composed::Refused { number: _, place } => place,
-    }
-}
-
-// The covered count, 0 where refused.
-fn composed_covered(c: Composed) -> u64
-    ensures { result ≡ covered_in c }
-{
-    match c {
-        Composed::Done { covered, stored: _ } => covered,
-        Composed::Refused {
-            number: _,
-            place: _,
-        } => 0,
-    }
-}
-
-// The store count, 0 where refused.
-fn composed_stored(c: Composed) -> u64
-    ensures { result ≡ stored_in c }
-{
-    match c {
-        Composed::Done { covered: _, stored } => stored,
-        Composed::Refused {
-            number: _,
-            place: _,
-        } => 0,
-    }
+    let c = answer.unwrap_or(NO_COUNTS);
+    *place = place_in(&answer);
+    *covered = c.covered;
+    *stored = c.stored;
+    number_in(&answer)
 }
 
 // The plain composer: bottom tile first.
@@ -119,7 +90,7 @@ pub extern "C" fn czi_compose_plain(
 {
     let f = request_of(pixel_type, left, top, width, height, masks);
     let any = any_scene != 0;
-    let c = compose::compose_plain(
+    let answer = compose::compose_plain(
         file,
         release_of(release),
         starts,
@@ -129,10 +100,7 @@ pub extern "C" fn czi_compose_plain(
         target,
         map,
     );
-    *place = composed_place(c);
-    *covered = composed_covered(c);
-    *stored = composed_stored(c);
-    composed_number(c)
+    tell_counts(answer, place, covered, stored)
 }
 
 // The quick composer: top tile first, each pixel stored at most once.
@@ -159,7 +127,7 @@ pub extern "C" fn czi_compose_quick(
 {
     let f = request_of(pixel_type, left, top, width, height, masks);
     let any = any_scene != 0;
-    let c = compose::compose_quick(
+    let answer = compose::compose_quick(
         file,
         release_of(release),
         starts,
@@ -169,8 +137,5 @@ pub extern "C" fn czi_compose_quick(
         target,
         map,
     );
-    *place = composed_place(c);
-    *covered = composed_covered(c);
-    *stored = composed_stored(c);
-    composed_number(c)
+    tell_counts(answer, place, covered, stored)
 }

@@ -1,15 +1,14 @@
 // The records as numbers: one tile's, dimension's or attachment's, and all tiles' or dimensions' at once.
-ghost use Rattle.std.specs.Prelude.{◌≡◌, length};
+ghost use Rattle.std.specs.Prelude.{length};
 ghost use Rattle.format.specs.Directory.{tile_count};
 ghost use Rattle.format.specs.Rules.{tile_verdict, attachment_verdict};
 ghost use Rattle.format.specs.Records.{dimension_verdict, tile_record, dimension_record, attachment_record};
-ghost use Rattle.format.specs.Answers.{dimension_verdict_in, dimension_in};
 ghost use Rattle.tables.specs.Tables.{tiles_verdict, TileArrays, dimension_total, dimensions_verdict, DimensionArrays};
 ghost use Rattle.czi.specs.Lent.{lent_scan};
 ghost use Rattle.czi.specs.Out.{TileOut, TableOut, DimensionOut, AttachmentOut};
 
-use crate::verdict::{number_of, place_of, release_of};
-use format::{AttachmentAnswer, Dimension, DimensionAnswer, TileAnswer, Verdict};
+use crate::verdict::{number_in, place_in, release_of, tell_count};
+use format::Dimension;
 use tables::numbers::{tile_numbers, tile_starts};
 
 // ---- tiles
@@ -26,18 +25,16 @@ pub extern "C" fn czi_tile(
 ) -> u32
     ensures { TileOut (tile_verdict (lent_scan file.now release) entry) (tile_record (lent_scan file.now release) entry) numbers.old starts.old result place.new numbers.new starts.new }
 {
-    let a = parts::tile(file, release_of(release), entry);
-    match a {
-        TileAnswer::Refused { number, place: at } => {
-            let v = Verdict::Refused { number, place: at };
-            *place = place_of(v);
-            number_of(v)
-        }
-        TileAnswer::Found(t) => {
+    match parts::tile(file, release_of(release), entry) {
+        Ok(t) => {
             *place = 0;
             *numbers = tile_numbers(t);
             *starts = tile_starts(t);
             0
+        }
+        Err(e) => {
+            *place = e.place;
+            e.fault.number()
         }
     }
 }
@@ -55,44 +52,21 @@ pub extern "C" fn czi_tiles(
     ensures table_out { TableOut (tiles_verdict (lent_scan file.now release) (length numbers.old) (length starts.old)) (tile_count file.now) result place.new tiles.new }
     ensures tile_arrays { TileArrays (lent_scan file.now release) numbers.old starts.old numbers.new starts.new }
 {
-    let t = tables::tiles::tiles(file, release_of(release), numbers, starts);
-    let v = t.verdict;
-    *place = place_of(v);
-    *tiles = t.rows;
-    number_of(v)
+    let rows = tables::tiles::tiles(file, release_of(release), numbers, starts);
+    tell_count(rows, place, tiles)
 }
 
 // ---- dimensions
 
-// The dimension record that an answer has, all zero where it is refused.
-fn dimension_in(a: DimensionAnswer) -> Dimension
-    ensures { result ≡ dimension_in a }
-{
-    match a {
-        DimensionAnswer::Found(d) => d,
-        DimensionAnswer::Refused {
-            number: _,
-            place: _,
-        } => Dimension {
-            letter: 0,
-            start: 0,
-            size: 0,
-            coordinate: 0.0,
-            coordinate_bits: 0,
-            stored: 0,
-        },
-    }
-}
-
-// The verdict that such an answer has.
-fn dimension_verdict(a: DimensionAnswer) -> Verdict
-    ensures { result ≡ dimension_verdict_in a }
-{
-    match a {
-        DimensionAnswer::Found(_) => Verdict::Accepted,
-        DimensionAnswer::Refused { number, place } => Verdict::Refused { number, place },
-    }
-}
+// What stands for a dimension where there is none.
+const NO_DIMENSION: Dimension = Dimension {
+    letter: 0,
+    start: 0,
+    size: 0,
+    coordinate: 0.0,
+    coordinate_bits: 0,
+    stored: 0,
+};
 
 // The dimension record, its StartCoordinate by its 32 bits.
 #[unsafe(no_mangle)]
@@ -110,17 +84,15 @@ pub extern "C" fn czi_dimension(
 ) -> u32
     ensures { DimensionOut (dimension_verdict (lent_scan file.now release) entry dimension) (dimension_record (lent_scan file.now release) entry dimension) result place.new letter.new start.new size.new coordinate_bits.new stored.new }
 {
-    let a = parts::dimension(file, release_of(release), entry, dimension);
-    let v = dimension_verdict(a);
-    let d = dimension_in(a);
-    let from = d.start;
-    *place = place_of(v);
+    let answer = parts::dimension(file, release_of(release), entry, dimension);
+    let d = answer.unwrap_or(NO_DIMENSION);
+    *place = place_in(&answer);
     *letter = d.letter;
-    *start = from;
+    *start = d.start;
     *size = d.size;
     *coordinate_bits = d.coordinate_bits;
     *stored = d.stored;
-    number_of(v)
+    number_in(&answer)
 }
 
 // Every dimension record, a row a dimension in each array, tile by tile; dimensions is how many. A refused call leaves both arrays as they were.
@@ -136,11 +108,8 @@ pub extern "C" fn czi_dimensions(
     ensures table_out { TableOut (dimensions_verdict (lent_scan file.now release) (length numbers.old) (length starts.old)) (dimension_total (lent_scan file.now release)) result place.new dimensions.new }
     ensures dimension_arrays { DimensionArrays (lent_scan file.now release) numbers.old starts.old numbers.new starts.new }
 {
-    let t = tables::dimensions::dimensions(file, release_of(release), numbers, starts);
-    let v = t.verdict;
-    *place = place_of(v);
-    *dimensions = t.rows;
-    number_of(v)
+    let rows = tables::dimensions::dimensions(file, release_of(release), numbers, starts);
+    tell_count(rows, place, dimensions)
 }
 
 // ---- attachments
@@ -161,25 +130,22 @@ pub extern "C" fn czi_attachment(
 ) -> u32
     ensures { AttachmentOut (attachment_verdict (lent_scan file.now release) entry) file.now (attachment_record (lent_scan file.now release) entry) guid.old file_type.old name.old guid.new file_type.new name.new result place.new start.new length.new }
 {
-    let a = parts::attachment(file, release_of(release), entry);
-    match a {
-        AttachmentAnswer::Refused { number, place: at } => {
-            let v = Verdict::Refused { number, place: at };
-            *place = place_of(v);
-            *start = 0;
-            *length = 0;
-            number_of(v)
-        }
-        AttachmentAnswer::Found(t) => {
+    match parts::attachment(file, release_of(release), entry) {
+        Ok(t) => {
             let e = t.place;
-            let data = t.data;
             *place = 0;
             *guid = attachments::attachment_guid(file, e);
             *file_type = attachments::attachment_type(file, e);
             *name = attachments::attachment_name(file, e);
-            *start = data.start;
-            *length = data.length;
+            *start = t.data.start;
+            *length = t.data.length;
             0
+        }
+        Err(e) => {
+            *place = e.place;
+            *start = 0;
+            *length = 0;
+            e.fault.number()
         }
     }
 }

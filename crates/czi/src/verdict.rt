@@ -1,42 +1,52 @@
-// The verdict on a file, and what the interface says of itself.
-ghost use Rattle.std.specs.Prelude.{◌≡◌, ◌≤◌};
-ghost use Rattle.format.specs.Checks.{number_of, place_of};
+// The verdict on a file, an answer's refusal as numbers, and what the interface says of itself.
+ghost use Rattle.std.specs.Prelude.{◌≡◌};
+ghost use Rattle.format.specs.Checks.{number_of, place_of, verdict_in, value_in};
 ghost use Rattle.format.specs.Entry.{pixel_bytes};
 ghost use Rattle.format.specs.Rules.{verdict};
 ghost use Rattle.czi.specs.Lent.{release_of, lent_scan};
 ghost use Rattle.czi.specs.Out.{interface_number, VerdictOut};
 
-use format::{Release, Verdict};
+use format::{Refusal, Release};
 
 // The number of the refusal, 0 where there is none.
-pub fn number_of(v: Verdict) -> u32
-    requires { number_of v ≤ 30 }
-    ensures { result ≡ number_of v }
+pub fn number_in<T>(answer: &Result<T, Refusal>) -> u32
+    ensures { result ≡ number_of (verdict_in answer.now) }
 {
-    match v {
-        Verdict::Refused { number, place: _ } => number as u32,
-        Verdict::Accepted => 0,
+    match answer {
+        Ok(_) => 0,
+        Err(e) => e.fault.number(),
     }
 }
 
 // Its place, 0 where there is none.
-pub fn place_of(v: Verdict) -> u64
-    ensures { result ≡ place_of v }
+pub fn place_in<T>(answer: &Result<T, Refusal>) -> u64
+    ensures { result ≡ place_of (verdict_in answer.now) }
 {
-    match v {
-        Verdict::Refused { number: _, place } => place,
-        Verdict::Accepted => 0,
+    match answer {
+        Ok(_) => 0,
+        Err(e) => e.place,
     }
 }
 
-// The release of a number: 1 is 1.02, any other 1.2.
+// A count that was asked for, 0 where refused.
+pub fn tell_count(answer: Result<u64, Refusal>, place: &mut u64, count: &mut u64) -> u32
+    ensures refusal { VerdictOut (verdict_in answer) result place.new }
+    ensures count { count.new ≡ value_in 0 answer }
+{
+    *place = place_in(&answer);
+    *count = answer.unwrap_or(0);
+    number_in(&answer)
+}
+
+// The release of a number: 1 is 1.02, any other 1.2. No `From`: the numbers are C's, and only `format`, which has the type, could write one.
+#[tactic(auto, using(format::proofs::Flags::flags), unfolding(crate::specs::Lent::release_of))]
 pub fn release_of(release: u32) -> Release
     ensures { result ≡ release_of release }
 {
-    if release == 1 {
-        return Release::R102;
+    match release {
+        1 => Release::R102,
+        _ => Release::R12,
     }
-    Release::R12
 }
 
 // The verdict on a file.
@@ -45,8 +55,8 @@ pub extern "C" fn czi_judge(file: &[u8], release: u32, place: &mut u64) -> u32
     ensures { VerdictOut (verdict (lent_scan file.now release)) result place.new }
 {
     let v = judge::judge(file, release_of(release));
-    *place = place_of(v);
-    number_of(v)
+    *place = place_in(&v);
+    number_in(&v)
 }
 
 // The number of this interface: it rises with every changed signature or array length.

@@ -1,22 +1,24 @@
 // Parts of the file, by their start and length in it: 0 and 0 where refused.
 ghost use Rattle.std.specs.Prelude.{◌≡◌};
+ghost use Rattle.format.specs.Checks.{verdict_in, value_in};
 ghost use Rattle.format.specs.Rules.{verdict, tile_verdict, attachment_verdict};
 ghost use Rattle.format.specs.Records.{tile_pixels, tile_metadata, tile_attachment, attachment_data, common_xml, common_attachment};
-ghost use Rattle.format.specs.Answers.{span_verdict};
+ghost use Rattle.format.specs.Answers.{no_span};
 ghost use Rattle.czi.specs.Lent.{lent_scan};
 ghost use Rattle.czi.specs.Out.{SpanOut};
 
-use crate::verdict::{number_of, place_of, release_of};
-use format::{SpanAnswer, Verdict};
+use crate::verdict::{number_in, place_in, release_of};
+use format::{Refusal, Span};
 
-// The verdict that an answer has.
-fn span_verdict(a: SpanAnswer) -> Verdict
-    ensures { result ≡ span_verdict a }
+// A part that was asked for.
+fn tell_span(part: Result<Span, Refusal>, place: &mut u64, start: &mut u64, length: &mut u64) -> u32
+    ensures { SpanOut (verdict_in part) (value_in no_span part) result place.new start.new length.new }
 {
-    match a {
-        SpanAnswer::Found(_) => Verdict::Accepted,
-        SpanAnswer::Refused { number, place } => Verdict::Refused { number, place },
-    }
+    let s = parts::span_in(part);
+    *place = place_in(&part);
+    *start = s.start;
+    *length = s.length;
+    number_in(&part)
 }
 
 // The pixels of a tile.
@@ -31,13 +33,8 @@ pub extern "C" fn czi_tile_pixels(
 ) -> u32
     ensures { SpanOut (tile_verdict (lent_scan file.now release) entry) (tile_pixels (lent_scan file.now release) entry) result place.new start.new length.new }
 {
-    let a = parts::tile_pixels_span(file, release_of(release), entry);
-    let v = span_verdict(a);
-    let pixels = parts::span_in(a);
-    *place = place_of(v);
-    *start = pixels.start;
-    *length = pixels.length;
-    number_of(v)
+    let pixels = parts::tile_pixels_span(file, release_of(release), entry);
+    tell_span(pixels, place, start, length)
 }
 
 // The metadata of a tile.
@@ -52,13 +49,8 @@ pub extern "C" fn czi_tile_metadata(
 ) -> u32
     ensures { SpanOut (tile_verdict (lent_scan file.now release) entry) (tile_metadata (lent_scan file.now release) entry) result place.new start.new length.new }
 {
-    let a = parts::tile_metadata_span(file, release_of(release), entry);
-    let v = span_verdict(a);
-    let metadata = parts::span_in(a);
-    *place = place_of(v);
-    *start = metadata.start;
-    *length = metadata.length;
-    number_of(v)
+    let metadata = parts::tile_metadata_span(file, release_of(release), entry);
+    tell_span(metadata, place, start, length)
 }
 
 // The attachment of a tile.
@@ -73,13 +65,8 @@ pub extern "C" fn czi_tile_attachment(
 ) -> u32
     ensures { SpanOut (tile_verdict (lent_scan file.now release) entry) (tile_attachment (lent_scan file.now release) entry) result place.new start.new length.new }
 {
-    let a = parts::tile_attachment_span(file, release_of(release), entry);
-    let v = span_verdict(a);
-    let attachment = parts::span_in(a);
-    *place = place_of(v);
-    *start = attachment.start;
-    *length = attachment.length;
-    number_of(v)
+    let attachment = parts::tile_attachment_span(file, release_of(release), entry);
+    tell_span(attachment, place, start, length)
 }
 
 // The data of an attachment.
@@ -94,13 +81,8 @@ pub extern "C" fn czi_attachment_data(
 ) -> u32
     ensures { SpanOut (attachment_verdict (lent_scan file.now release) entry) (attachment_data (lent_scan file.now release) entry) result place.new start.new length.new }
 {
-    let a = parts::attachment_data_span(file, release_of(release), entry);
-    let v = span_verdict(a);
-    let data = parts::span_in(a);
-    *place = place_of(v);
-    *start = data.start;
-    *length = data.length;
-    number_of(v)
+    let data = parts::attachment_data_span(file, release_of(release), entry);
+    tell_span(data, place, start, length)
 }
 
 // The common XML.
@@ -114,13 +96,8 @@ pub extern "C" fn czi_common_xml(
 ) -> u32
     ensures { SpanOut (verdict (lent_scan file.now release)) (common_xml (lent_scan file.now release)) result place.new start.new length.new }
 {
-    let a = parts::common_xml_span(file, release_of(release));
-    let v = span_verdict(a);
-    let xml = parts::span_in(a);
-    *place = place_of(v);
-    *start = xml.start;
-    *length = xml.length;
-    number_of(v)
+    let xml = parts::common_xml_span(file, release_of(release));
+    tell_span(xml, place, start, length)
 }
 
 // The common XML's attachment.
@@ -134,11 +111,6 @@ pub extern "C" fn czi_common_attachment(
 ) -> u32
     ensures { SpanOut (verdict (lent_scan file.now release)) (common_attachment (lent_scan file.now release)) result place.new start.new length.new }
 {
-    let a = parts::common_attachment_span(file, release_of(release));
-    let v = span_verdict(a);
-    let annex = parts::span_in(a);
-    *place = place_of(v);
-    *start = annex.start;
-    *length = annex.length;
-    number_of(v)
+    let annex = parts::common_attachment_span(file, release_of(release));
+    tell_span(annex, place, start, length)
 }

@@ -8,14 +8,14 @@ use lib.ListN.{get_or, set, length-set, replicate, length-replicate}
 use lib.Seq.{get_or-set_other, get_or-set_same}
 use lib.Dec.{eqb}
 use borrow.Author.Tests.{eqb-true, eqb-false}
-use Rattle.format.specs.Checks.{Check, first}
+use Rattle.std.specs.Prelude.{Err}
+use Rattle.format.specs.Checks.{Verdict, Accepted, Check, first}
 use Rattle.format.specs.Segments.{walked}
 use Rattle.format.specs.Scan.{Scan, block_file}
 use Rattle.format.specs.Entry.{file_position}
 use Rattle.format.specs.Directory.{tile_rows, attachment_rows}
 use Rattle.format.specs.declared.Release.{Release}
-use Rattle.format.specs.declared.Verdict.{Verdict}
-use Rattle.format.specs.declared.Verdict.TheVariants.{Accepted, Refused}
+use Rattle.format.specs.declared.Refusal.{Refusal}
 use Rattle.subblocks.proofs.OwnCopy.{own-rows}
 use Rattle.directory.proofs.Stages.{then-stop, then_next}
 use Rattle.directory.specs.Marks.{block_rows, body_rows, ChunksAccepted, Marked, ChunksKnown, AnsweredMarked, ChunksAnswered}
@@ -33,8 +33,8 @@ none-marked bs r = record { size = length-replicate {A = ℕ} 8192 0; right = λ
 -- ---- rows judged after others, with flags that are right
 
 module _ (bs flags : List ℕ) (r : Release) (v : Verdict) (a b : List Check) (e : v ≡ first a) where
-  pub answered-stop : (m p : ℕ) → Marked bs flags r → v ≡ Refused m p → AnsweredMarked bs (a ++ b) flags r (Refused m p)
-  answered-stop m p k h = record { verdict-is = then-stop v a b m p e h; marked = k }
+  pub answered-stop : (x : Refusal) → Marked bs flags r → v ≡ Err x → AnsweredMarked bs (a ++ b) flags r (Err x)
+  answered-stop x k h = record { verdict-is = then-stop v a b x e h; marked = k }
 
   pub answered-next : (w : Verdict) → v ≡ Accepted → AnsweredMarked bs b flags r w → AnsweredMarked bs (a ++ b) flags r w
   answered-next w h k = record { verdict-is = then_next v w a b e h k.verdict-is; marked = k.marked }
@@ -63,9 +63,9 @@ module _ (ds : List ℕ) (e : ℕ) (bs : List ℕ) (q : ℕ) (flags : List ℕ) 
   }
 
   -- they are refused: no flag is set
-  pub judged-refused : (v : Verdict) (m p : ℕ) → v ≡ first (attachment_rows ds e bs q r) → v ≡ Refused m p
-      → ChunksAnswered bs (attachment_rows ds e bs q r) flags k r (Refused m p)
-  judged-refused v m p j h = record {
+  pub judged-refused : (v : Verdict) (x : Refusal) → v ≡ first (attachment_rows ds e bs q r) → v ≡ Err x
+      → ChunksAnswered bs (attachment_rows ds e bs q r) flags k r (Err x)
+  judged-refused v x j h = record {
     answered = record { verdict-is = sym h ∙ j; marked = f.marked };
     flagged = λ a. let z : ◌≡◌ {A = ℕ} 0 1 = cc in absurd (omega arith);
   }

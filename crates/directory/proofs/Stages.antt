@@ -9,7 +9,8 @@ use lib.ListN.{length}
 use lib.Dec.{ltb}
 use borrow.Author.Tests.{ltb-false, eqb-false, not-false}
 use Rattle.format.specs.Scan.{Scan, block_file}
-use Rattle.format.specs.Checks.{Check, first, rows_below}
+use Rattle.std.specs.Prelude.{Some, Ok, Err}
+use Rattle.format.specs.Checks.{Verdict, Accepted, Check, first, rows_below}
 use Rattle.format.specs.File.{directory_position}
 use Rattle.format.specs.Segments.{room, RoomIn, walked_as}
 use Rattle.format.specs.Names.{name_sub_block}
@@ -17,21 +18,20 @@ use Rattle.format.specs.Entry.{dimension_count, next_entry, file_position}
 use Rattle.format.specs.SubBlock.{sub_block_bad}
 use Rattle.format.specs.Directory.{room_end, directory_bad, entry_place, head_rows, tile_rows, sub_block_rows, entry_rows}
 use Rattle.format.specs.declared.Release.{Release}
-use Rattle.format.specs.declared.Verdict.{Verdict}
-use Rattle.format.specs.declared.Verdict.TheVariants.{Accepted, Refused}
+use Rattle.format.specs.declared.Refusal.{Refusal}
 use Rattle.format.proofs.Firsts.{first-pass, first-stop, first-both, passed, rows-zero, rows_more, rows-stop}
 use Rattle.format.proofs.Below.{none}
 use Rattle.format.proofs.SegmentLaws.{walked-room, walked-few}
 use Rattle.entries.proofs.EntryLaws.{head_ok}
-use Rattle.segments.specs.Walk.{WalkTable, index_as}
-use Rattle.segments.proofs.Naming.{count-is, named, below-named}
+use Rattle.segments.specs.Walk.{index_as}
+use Rattle.segments.proofs.Naming.{named}
 use Rattle.subblocks.specs.Judged.{Placed, CopyAgrees, Filled}
 use Rattle.directory.specs.Marks.{Marked, BlockKnown, ChunksKnown, AnsweredMarked}
 
 -- ---- the answer v of the first rows decides, or the answer w of the rows behind them
 
-pub then-stop : (v : Verdict) (a b : List Check) (m p : ℕ) → v ≡ first a → v ≡ Refused m p → Refused m p ≡ first (a ++ b)
-then-stop v a b m p e h = sym (first-stop a b m p (sym e ∙ h))
+pub then-stop : (v : Verdict) (a b : List Check) (r : Refusal) → v ≡ first a → v ≡ Err r → Err r ≡ first (a ++ b)
+then-stop v a b r e h = sym (first-stop a b r (sym e ∙ h))
 
 pub then_next : (v w : Verdict) (a b : List Check) → v ≡ first a → v ≡ Accepted → w ≡ first b → w ≡ first (a ++ b)
 then_next v w a b e h k = k ∙ sym (first-pass a b (sym e ∙ h))
@@ -78,26 +78,20 @@ placed sc e few entry h =
       within = walked-room (block_file sc e) (file_position sc.file e) name_sub_block (not-false _ (g 4));
     }
 
--- k is the index in the file bs of the sub-block, at q, that the entry at e of the file ds names, if there is one
-pub named-is : (ds : List ℕ) (e : ℕ) (bs : List ℕ) (k q : ℕ) (table : List ℕ) (count : ℕ) → q ≡ file_position ds e → k ≡ index_as bs q name_sub_block
-    → WalkTable bs table count → ltb k count ≡ walked_as bs (file_position ds e) name_sub_block
-named-is ds e bs k q table count f n h = rw (n, f, count-is bs table count h) (below-named bs (file_position ds e) name_sub_block)
-
 -- of a scan: what judging the sub-block rests on
-module _ (sc : Scan) (e k q : ℕ) (f : q ≡ file_position sc.file e) (n : k ≡ index_as (block_file sc e) q name_sub_block) where
+module _ (sc : Scan) (e k q : ℕ) (f : q ≡ file_position sc.file e) (n : Some k ≡ index_as (block_file sc e) q name_sub_block) where
   pub block-known : (flags : List ℕ) (v : Verdict) → Marked (block_file sc e) flags sc.release
       → dimension_count sc.file e ≤ 16 → next_entry sc.file e ≤ length sc.file
       → v ≡ first (tile_rows sc.file e (block_file sc e)) → v ≡ Accepted → BlockKnown sc.file e (block_file sc e) q flags k sc.release
   unfolding tile_rows
   block-known flags v m few entry j a =
       let h : first (tile_rows sc.file e (block_file sc e)) ≡ Accepted = sym j ∙ a in
-      let s = named (block_file sc e) (file_position sc.file e) name_sub_block (not-false _ (passed (tile_rows sc.file e (block_file sc e)) h 4)) in
-      rw (n, f)
-      (record {
-        placed = placed sc e few entry h;
+      let s = named (block_file sc e) q name_sub_block k n in
+      record {
+        placed = rw f (placed sc e few entry h);
         stands = record { below = omega (arith, s.below, walked-few (block_file sc e)); at = s.stands };
         marked = m;
-      })
+      }
 
 -- ---- a sub-block that is accepted
 
@@ -155,8 +149,8 @@ module _ (sc : Scan) (flags : List ℕ) (d n e k : ℕ) (i : Entries sc flags d 
       marked = j.marked;
     }
 
-    pub entries-stop : (m p : ℕ) → v ≡ Refused m p → Refused m p ≡ first (rows_below n (λ i. entry_rows sc d (entry_place sc.file i)))
-    entries-stop m p a = sym (rows-stop n k _ m p l i.accepted (rows-here ∙ a))
+    pub entries-stop : (r : Refusal) → v ≡ Err r → Err r ≡ first (rows_below n (λ i. entry_rows sc d (entry_place sc.file i)))
+    entries-stop r a = sym (rows-stop n k _ r l i.accepted (rows-here ∙ a))
 
   pub entries-end : n ≤ k → Accepted ≡ first (rows_below n (λ i. entry_rows sc d (entry_place sc.file i)))
   entries-end h = let f : k ≡ n = omega (arith, i.count) in sym (rw f at i.accepted)

@@ -1,14 +1,12 @@
 -- The rows of an entry behind its head, the flags by which the chunks of a sub-block are judged once, however many entries name it, and what judging
 -- an entry answers with them. The flags are those of the file that holds the sub-blocks.
 use Rattle.std.specs.Prelude.{ℕ, ◌+◌, ◌<◌, ◌≡◌, List, ◌++◌, length, get_or}
-use Rattle.format.specs.Checks.{Check, first}
+use Rattle.format.specs.Checks.{Verdict, Accepted, Check, first}
 use Rattle.format.specs.Segments.{walked}
 use Rattle.format.specs.Scan.{Scan, block_file}
 use Rattle.format.specs.Entry.{file_position}
 use Rattle.format.specs.Directory.{tile_rows, sub_block_rows, attachment_rows}
 use Rattle.format.specs.declared.Release.{Release}
-use Rattle.format.specs.declared.Verdict.{Verdict}
-use Rattle.format.specs.declared.Verdict.TheVariants.{Accepted}
 use Rattle.subblocks.specs.Judged.{Placed, Filled}
 
 -- the rows of the sub-block at q of the file bs, its entry at e of the file ds, and of its chunks

@@ -2,20 +2,22 @@
 // sub-block in the slice s; which file of a scan that is, the function that judges the entry's body says.
 #![tactic(auto)]
 
-ghost use Rattle.std.specs.Prelude.{◌≡◌, ◌+◌, ◌<◌, ◌≤◌, ◌^◌, length};
+ghost use Rattle.std.specs.Prelude.{IfOk, ◌≡◌, ◌+◌, ◌<◌, ◌≤◌, ◌^◌, length};
 ghost use Rattle.format.specs.Scan.{scan_of};
-ghost use Rattle.format.specs.Checks.{first, rows_below};
+ghost use Rattle.format.specs.Checks.{first, rows_below, verdict_in};
 ghost use Rattle.format.specs.Names.{name_sub_block};
-ghost use Rattle.format.specs.Segments.{RoomIn, walked_as};
+ghost use Rattle.format.specs.Segments.{RoomIn};
 ghost use Rattle.format.specs.File.{directory_position};
 ghost use Rattle.format.specs.Entry.{next_entry, dimension_count, file_position};
 ghost use Rattle.format.specs.Directory.{entry_count, room_end, entry_place, directory_bad, head_rows, tile_rows, sub_block_rows, attachment_rows, entry_rows};
 ghost use Rattle.format.specs.Directory.{directory_rows};
-ghost use Rattle.segments.specs.Walk.{WalkTable};
+ghost use Rattle.segments.specs.Walk.{index_as};
 ghost use Rattle.subblocks.specs.Judged.{Placed};
 ghost use Rattle.directory.specs.Marks.{block_rows, body_rows, Marked, BlockKnown, ChunksKnown, AnsweredMarked, ChunksAnswered};
 
-use format::{Release, Verdict};
+use format::{Fault, Refusal, Release, Verdict};
+use segments::kinds::Kind;
+use segments::walked::Walk;
 
 // ---- the fields of the directory
 
@@ -71,63 +73,64 @@ fn judge_head(s: &[u8], d: u64, e: u64) -> Verdict
 {
     let end = room_end(s, d);
     if end < e + 32 {
-        return Verdict::Refused {
-            number: 10,
+        return Err(Refusal {
+            fault: Fault::Directory,
             place: d,
-        };
+        });
     }
     if entries::head_bad(s, e) {
-        return Verdict::Refused {
-            number: 11,
+        return Err(Refusal {
+            fault: Fault::Entry,
             place: e,
-        };
+        });
     }
     if end < entries::next_entry(s, e) {
-        return Verdict::Refused {
-            number: 10,
+        return Err(Refusal {
+            fault: Fault::Directory,
             place: d,
-        };
+        });
     }
-    Verdict::Accepted
+    Ok(())
 }
 
-// The rest of the entry itself: 11, 12, 13, 7, 14. A search in the table has told whether it names a sub-block.
-fn judge_tile(s: &[u8], e: u64, named: bool) -> Verdict
+// The rest of the entry itself: 11, 12, 13, 7, 14. The index of the sub-block that it names was looked up, and is the answer.
+fn judge_tile(s: &[u8], e: u64, named: Option<usize>) -> Result<usize, Refusal>
     requires e_bound { (dimension_count s.now e ≤ 16) × (next_entry s.now e ≤ length s.now) }
-    requires named_value { named ≡ walked_as s.now (file_position s.now e) name_sub_block }
-    ensures { result ≡ first (tile_rows s.now e s.now) }
+    requires named_value { named ≡ index_as s.now (file_position s.now e) name_sub_block }
+    ensures verdict { verdict_in result ≡ first (tile_rows s.now e s.now) }
+    ensures index { IfOk result (λ k. Some k ≡ named) }
 {
     if entries::dimensions_bad(s, e) {
-        return Verdict::Refused {
-            number: 11,
+        return Err(Refusal {
+            fault: Fault::Entry,
             place: e,
-        };
+        });
     }
     if entries::pixel_bytes(entries::pixel_type(s, e)) == 0 {
-        return Verdict::Refused {
-            number: 12,
+        return Err(Refusal {
+            fault: Fault::PixelType,
             place: e,
-        };
+        });
     }
     if entries::compression(s, e) != 0 {
-        return Verdict::Refused {
-            number: 13,
+        return Err(Refusal {
+            fault: Fault::Compression,
             place: e,
-        };
+        });
     }
     if entries::file_part(s, e) != 0 {
-        return Verdict::Refused {
-            number: 7,
+        return Err(Refusal {
+            fault: Fault::FilePart,
             place: e,
-        };
+        });
     }
-    if !named {
-        return Verdict::Refused {
-            number: 14,
+    match named {
+        Some(k) => Ok(k),
+        None => Err(Refusal {
+            fault: Fault::NamedSegment,
             place: e,
-        };
+        }),
     }
-    Verdict::Accepted
 }
 
 // The sub-block at q of the file s, its entry at e of the file d: 15, 16.
@@ -136,18 +139,18 @@ fn judge_sub_block(d: &[u8], e: u64, s: &[u8], q: u64) -> Verdict
     ensures { result ≡ first (sub_block_rows d.now e s.now q) }
 {
     if subblocks::sub_block_bad(d, e, s, q) {
-        return Verdict::Refused {
-            number: 15,
+        return Err(Refusal {
+            fault: Fault::Copy,
             place: q,
-        };
+        });
     }
     if subblocks::contents_bad(d, e, s, q) {
-        return Verdict::Refused {
-            number: 16,
+        return Err(Refusal {
+            fault: Fault::Sizes,
             place: q,
-        };
+        });
     }
-    Verdict::Accepted
+    Ok(())
 }
 
 // The chunks of that sub-block, walked segment k of its file: 17, 18. They are judged once: for every entry that agrees with the sub-block they are the same.
@@ -164,16 +167,11 @@ fn judge_chunks_once(
     ensures { ChunksAnswered s.now (attachment_rows d.now e s.now q release) judged.new k release result }
 {
     if judged[k] != 0 {
-        return Verdict::Accepted;
+        return Ok(());
     }
-    let v = subblocks::judge_attachment(d, e, s, q, release);
-    match v {
-        Verdict::Refused { number, place } => Verdict::Refused { number, place },
-        Verdict::Accepted => {
-            judged[k] = 1;
-            Verdict::Accepted
-        }
-    }
+    subblocks::judge_attachment(d, e, s, q, release)?;
+    judged[k] = 1;
+    Ok(())
 }
 
 // The sub-block and its attachment's chunks: 15, 16, 17, 18.
@@ -189,103 +187,59 @@ fn judge_block(
     requires { BlockKnown d.now e s.now q judged.old k release }
     ensures { AnsweredMarked s.now (block_rows d.now e s.now q release) judged.new release result }
 {
-    let v = judge_sub_block(d, e, s, q);
-    match v {
-        Verdict::Refused { number, place } => Verdict::Refused { number, place },
-        Verdict::Accepted => judge_chunks_once(d, e, s, q, release, judged, k),
-    }
+    judge_sub_block(d, e, s, q)?;
+    judge_chunks_once(d, e, s, q, release, judged, k)
 }
 
 // An entry whose head is right, and its sub-block: 11, 12, 13, 7, 14 to 18.
-fn judge_body(
-    s: &[u8],
-    release: Release,
-    table: &[u64; 8192],
-    count: usize,
-    judged: &mut [u8; 8192],
-    e: u64,
-) -> Verdict
-    requires walk_table { WalkTable s.now table.now count }
-    requires marked { Marked s.now judged.old release }
-    requires e_bound { (dimension_count s.now e ≤ 16) × (next_entry s.now e ≤ length s.now) }
-    ensures { AnsweredMarked s.now (body_rows (scan_of s.now release) e) judged.new release result }
+fn judge_body(walk: &Walk, release: Release, judged: &mut [u8; 8192], e: u64) -> Verdict
+    requires marked { Marked walk.now.file.now judged.old release }
+    requires e_bound { (dimension_count walk.now.file.now e ≤ 16) × (next_entry walk.now.file.now e ≤ length walk.now.file.now) }
+    ensures { AnsweredMarked walk.now.file.now (body_rows (scan_of walk.now.file.now release) e) judged.new release result }
 {
+    let s = walk.file;
     let q = entries::file_position(s, e);
-    let k = segments::index_as(s, table, count, q, b"ZISRAWSUBBLOCK\0\0");
-    let v = judge_tile(s, e, k < count);
-    match v {
-        Verdict::Refused { number, place } => Verdict::Refused { number, place },
-        Verdict::Accepted => judge_block(s, e, s, q, release, judged, k),
-    }
+    let k = judge_tile(s, e, walk.index_of(q, Kind::SubBlock))?;
+    judge_block(s, e, s, q, release, judged, k)
 }
 
 // The entry at e of the directory at d.
-fn judge_entry(
-    s: &[u8],
-    release: Release,
-    table: &[u64; 8192],
-    count: usize,
-    judged: &mut [u8; 8192],
-    d: u64,
-    e: u64,
-) -> Verdict
-    requires walk_table { WalkTable s.now table.now count }
-    requires marked { Marked s.now judged.old release }
-    requires room_in { RoomIn s.now d }
-    requires e_bound { e ≤ room_end s.now d }
-    ensures { AnsweredMarked s.now (entry_rows (scan_of s.now release) d e) judged.new release result }
+fn judge_entry(walk: &Walk, release: Release, judged: &mut [u8; 8192], d: u64, e: u64) -> Verdict
+    requires marked { Marked walk.now.file.now judged.old release }
+    requires room_in { RoomIn walk.now.file.now d }
+    requires e_bound { e ≤ room_end walk.now.file.now d }
+    ensures { AnsweredMarked walk.now.file.now (entry_rows (scan_of walk.now.file.now release) d e) judged.new release result }
 {
-    let v = judge_head(s, d, e);
-    match v {
-        Verdict::Refused { number, place } => Verdict::Refused { number, place },
-        Verdict::Accepted => judge_body(s, release, table, count, judged, e),
-    }
+    judge_head(walk.file, d, e)?;
+    judge_body(walk, release, judged, e)
 }
 
 // The entries of the directory, in order.
-fn judge_entries(
-    s: &[u8],
-    release: Release,
-    table: &[u64; 8192],
-    count: usize,
-    d: u64,
-    n: u64,
-) -> Verdict
-    requires walk_table { WalkTable s.now table.now count }
-    requires room_in { RoomIn s.now d }
-    requires in_bounds { (112 ≤ length s.now) × (entry_place s.now 0 ≤ room_end s.now d) }
-    ensures { result ≡ first (rows_below n (λ k. entry_rows (scan_of s.now release) d (entry_place s.now k))) }
+fn judge_entries(walk: &Walk, release: Release, d: u64, n: u64) -> Verdict
+    requires room_in { RoomIn walk.now.file.now d }
+    requires in_bounds { (112 ≤ length walk.now.file.now) × (entry_place walk.now.file.now 0 ≤ room_end walk.now.file.now d) }
+    ensures { result ≡ first (rows_below n (λ k. entry_rows (scan_of walk.now.file.now release) d (entry_place walk.now.file.now k))) }
 {
     let mut judged = [0u8; 8192];
-    let mut e = first_entry(s);
-    let mut k: u64 = 0;
-    while k < n {
-        let v = judge_entry(s, release, table, count, &mut judged, d, e);
-        match v {
-            Verdict::Refused { number, place } => {
-                return Verdict::Refused { number, place };
-            }
-            Verdict::Accepted => {
-                e = entries::next_entry(s, e);
-                k += 1;
-            }
-        }
+    let mut e = first_entry(walk.file);
+    for _k in 0..n {
+        judge_entry(walk, release, &mut judged, d, e)?;
+        e = entries::next_entry(walk.file, e);
     }
-    Verdict::Accepted
+    Ok(())
 }
 
 // The directory that the file segment names.
-pub fn judge_directory(s: &[u8], release: Release, table: &[u64; 8192], count: usize) -> Verdict
-    requires walk_table { WalkTable s.now table.now count }
-    requires in_bounds { (112 ≤ length s.now) × RoomIn s.now (directory_position s.now) }
-    ensures { result ≡ first (directory_rows (scan_of s.now release)) }
+pub fn judge_directory(walk: &Walk, release: Release) -> Verdict
+    requires { (112 ≤ length walk.now.file.now) × RoomIn walk.now.file.now (directory_position walk.now.file.now) }
+    ensures { result ≡ first (directory_rows (scan_of walk.now.file.now release)) }
 {
-    let d = segments::file::directory_position(s);
-    if directory_bad(s, d) {
-        return Verdict::Refused {
-            number: 10,
+    let d = segments::file::directory_position(walk.file);
+    if directory_bad(walk.file, d) {
+        return Err(Refusal {
+            fault: Fault::Directory,
             place: d,
-        };
+        });
     }
-    judge_entries(s, release, table, count, d, entry_count(s, d))
+    judge_entries(walk, release, d, entry_count(walk.file, d))
 }

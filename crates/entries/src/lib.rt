@@ -10,7 +10,7 @@ ghost use Rattle.format.specs.Entry.{has_layers, layers_bad, dimensions_bad};
 ghost use Rattle.format.specs.Entry.{letter_index, letter_place, is_pyramid, is_layered, layers_index, layers_place, layer_count, pixel_bytes};
 ghost use Rattle.format.specs.Records.{extent_at, m_index_of, layers_of, dimension_at};
 
-use format::{Dimension, Extent, Layers, MIndex};
+use format::{Dimension, Extent, Layers};
 
 // ---- the fields of the entry at e
 
@@ -278,19 +278,13 @@ fn dimension_bad(s: &[u8], d: u64) -> bool
 }
 
 // Some dimension of the entry is not well formed by itself.
+#[tactic(auto, unfolding(format::specs::Entry::next_entry))]
 fn some_bad(s: &[u8], e: u64) -> bool
     requires { next_entry s.now e ≤ length s.now }
     ensures { result ≡ any_below (dimension_count s.now e) (λ k. dimension_bad s.now (dimension_place e k)) }
 {
     let n = dimension_count(s, e);
-    let mut k: u64 = 0;
-    while k < n {
-        if dimension_bad(s, dimension_place(e, k)) {
-            return true;
-        }
-        k += 1;
-    }
-    false
+    (0..n).any(|k| dimension_bad(s, dimension_place(e, k)))
 }
 
 // Dimension k of the entry has the letter x.
@@ -309,14 +303,7 @@ fn holds_below(s: &[u8], e: u64, x: u64, j: u64) -> bool
     requires { dimension_place e j ≤ length s.now }
     ensures { result ≡ any_below j (has_letter s.now e x) }
 {
-    let mut k: u64 = 0;
-    while k < j {
-        if has_letter(s, e, x, k) {
-            return true;
-        }
-        k += 1;
-    }
-    false
+    (0..j).any(|k| has_letter(s, e, x, k))
 }
 
 // The letter of dimension j stands before it too.
@@ -329,19 +316,13 @@ fn repeats_at(s: &[u8], e: u64, j: u64) -> bool
 }
 
 // A letter stands twice.
+#[tactic(auto, unfolding(format::specs::Entry::next_entry))]
 fn some_repeats(s: &[u8], e: u64) -> bool
     requires { next_entry s.now e ≤ length s.now }
     ensures { result ≡ any_below (dimension_count s.now e) (repeats s.now e) }
 {
     let n = dimension_count(s, e);
-    let mut k: u64 = 0;
-    while k < n {
-        if repeats_at(s, e, k) {
-            return true;
-        }
-        k += 1;
-    }
-    false
+    (0..n).any(|k| repeats_at(s, e, k))
 }
 
 // Dimension j is Y, and X stands before it.
@@ -356,19 +337,13 @@ fn closes_plane(s: &[u8], e: u64, j: u64) -> bool
 }
 
 // X stands, and Y after it.
+#[tactic(auto, unfolding(format::specs::Entry::next_entry))]
 fn some_closes(s: &[u8], e: u64) -> bool
     requires { next_entry s.now e ≤ length s.now }
     ensures { result ≡ any_below (dimension_count s.now e) (closes_plane s.now e) }
 {
     let n = dimension_count(s, e);
-    let mut k: u64 = 0;
-    while k < n {
-        if closes_plane(s, e, k) {
-            return true;
-        }
-        k += 1;
-    }
-    false
+    (0..n).any(|k| closes_plane(s, e, k))
 }
 
 // Dimension k of the entry has layers.
@@ -391,14 +366,7 @@ fn layers_below(s: &[u8], e: u64, j: u64) -> bool
     requires { dimension_place e j ≤ length s.now }
     ensures { result ≡ any_below j (has_layers s.now e) }
 {
-    let mut k: u64 = 0;
-    while k < j {
-        if has_layers(s, e, k) {
-            return true;
-        }
-        k += 1;
-    }
-    false
+    (0..j).any(|k| has_layers(s, e, k))
 }
 
 // Dimension j has layers, and so has one before it, or Y does not stand before it.
@@ -419,19 +387,13 @@ fn layers_bad(s: &[u8], e: u64, j: u64) -> bool
 }
 
 // A second dimension has layers, or one before Y.
+#[tactic(auto, unfolding(format::specs::Entry::next_entry))]
 fn some_layers_bad(s: &[u8], e: u64) -> bool
     requires { next_entry s.now e ≤ length s.now }
     ensures { result ≡ any_below (dimension_count s.now e) (layers_bad s.now e) }
 {
     let n = dimension_count(s, e);
-    let mut k: u64 = 0;
-    while k < n {
-        if layers_bad(s, e, k) {
-            return true;
-        }
-        k += 1;
-    }
-    false
+    (0..n).any(|k| layers_bad(s, e, k))
 }
 
 // Refusal 11 for the dimensions.
@@ -464,19 +426,13 @@ pub fn holds_letter(s: &[u8], e: u64, x: u64) -> bool
 }
 
 // The number of the dimension of the letter x; the number of dimensions where there is none.
+#[tactic(auto, unfolding(format::specs::Entry::next_entry))]
 pub fn letter_index(s: &[u8], e: u64, x: u64) -> u64
     requires { next_entry s.now e ≤ length s.now }
     ensures { result ≡ letter_index s.now e x }
 {
     let n = dimension_count(s, e);
-    let mut k: u64 = 0;
-    while k < n {
-        if has_letter(s, e, x, k) {
-            return k;
-        }
-        k += 1;
-    }
-    n
+    (0..n).find(|k| has_letter(s, e, x, *k)).unwrap_or(n)
 }
 
 // The place of the dimension of the letter x; the place behind the entry where there is none.
@@ -515,19 +471,13 @@ pub fn is_layered(s: &[u8], e: u64) -> bool
 }
 
 // The number of the dimension with layers; the number of dimensions where there is none.
+#[tactic(auto, unfolding(format::specs::Entry::next_entry))]
 fn layers_index(s: &[u8], e: u64) -> u64
     requires { next_entry s.now e ≤ length s.now }
     ensures { result ≡ layers_index s.now e }
 {
     let n = dimension_count(s, e);
-    let mut k: u64 = 0;
-    while k < n {
-        if has_layers(s, e, k) {
-            return k;
-        }
-        k += 1;
-    }
-    n
+    (0..n).find(|k| has_layers(s, e, *k)).unwrap_or(n)
 }
 
 // Its place; the place behind the entry where there is none.
@@ -591,19 +541,19 @@ pub fn letter_extent(s: &[u8], e: u64, x: u64) -> Extent
 }
 
 // The Start of M (77), if the entry has one.
-pub fn m_index_of(s: &[u8], e: u64) -> MIndex
+pub fn m_index_of(s: &[u8], e: u64) -> Option<i32>
     requires { next_entry s.now e ≤ length s.now }
     ensures { result ≡ m_index_of s.now e }
 {
     if holds_letter(s, e, 77) {
         let d = letter_place(s, e, 77);
-        return MIndex::M(fields::signed_of(start_at(s, d)));
+        return Some(fields::signed_of(start_at(s, d)));
     }
-    MIndex::NoM
+    None
 }
 
-// The letter, the start and the size of the layers, all 0 where there are none.
-pub fn layers_of(s: &[u8], e: u64) -> Layers
+// The letter, the start and the size of the layers, if there are any.
+pub fn layers_of(s: &[u8], e: u64) -> Option<Layers>
     requires { next_entry s.now e ≤ length s.now }
     ensures { result ≡ layers_of s.now e }
 {
@@ -612,17 +562,13 @@ pub fn layers_of(s: &[u8], e: u64) -> Layers
         let letter = letter_at(s, d);
         let start = fields::signed_of(start_at(s, d));
         let size = size_at(s, d);
-        return Layers {
+        return Some(Layers {
             letter,
             start,
             size,
-        };
+        });
     }
-    Layers {
-        letter: 0,
-        start: 0,
-        size: 0,
-    }
+    None
 }
 
 // The dimension record of the dimension at d. The bits of StartCoordinate stand beside it.

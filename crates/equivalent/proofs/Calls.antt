@@ -7,13 +7,14 @@ use native.Mathlib.Omega.{arith}
 use lib.ListN.{length}
 use borrow.Author.Tests.{eqb-true, not-false}
 use Rattle.format.specs.Scan.{Scan}
-use Rattle.format.specs.Checks.{first, if_accepted}
+use Rattle.std.specs.Prelude.{Err}
+use Rattle.format.specs.Checks.{Verdict, Accepted, Refused, first, number_of, if_accepted, answer_if, verdict_in}
 use Rattle.format.specs.Entry.{pixel_type, pixel_bytes, dimensions_bad, is_pyramid}
 use Rattle.format.specs.Directory.{tile_count}
 use Rattle.format.specs.Records.{tile_entry}
 use Rattle.format.specs.Rules.{checks, verdict}
-use Rattle.format.specs.declared.Verdict.{Verdict}
-use Rattle.format.specs.declared.Verdict.TheVariants.{Accepted, Refused}
+use Rattle.format.specs.declared.Fault.{Fault}
+use Rattle.format.specs.declared.Refusal.{Refusal}
 use Rattle.format.proofs.Below.{by_bool}
 use Rattle.format.proofs.Firsts.{first-stop}
 use Rattle.judge.proofs.AcceptedFile.{tiled}
@@ -26,7 +27,8 @@ use Rattle.selection.proofs.Starts.{selected-layer}
 use Rattle.tiles.specs.FileTile.{rectangle, meets, file_tile}
 use Rattle.question.specs.Question.{masks_on, request_window, ask_rows, type_bad, agree_row, agree_rows}
 use Rattle.question.specs.Call.{Asked, choice_of, chosen, call_verdict, asked_window, asked_bytes, selected, painted}
-use Rattle.question.specs.Call.{answer_if, answer, target_after, map_after, number_in, covered_in, stored_in}
+use Rattle.question.specs.Call.{answer, target_after, map_after, covered_in, stored_in}
+use Rattle.question.specs.declared.Counts.{Counts}
 use Rattle.question.proofs.Accepts.{call_ok}
 use Rattle.question.proofs.Calls.{room}
 use Rattle.equivalent.specs.Same.{SameScans}
@@ -57,7 +59,7 @@ module _ {a b : Scan} (s : SameScans a b) (q : Asked) where
   agree_same w t =
       rw (← tiles-same a b s)
       (below-same (tile_count a.file) (agree_row a.file (chosen (asked_of a q)) w t) (agree_row b.file (chosen (asked_of b q)) w t)
-      (λ k h. row_same 23 (tile_entry a k) (tile_entry b k) _ _ (given k h)))
+      (λ k h. row_same Fault.TileType (tile_entry a k) (tile_entry b k) _ _ (given k h)))
     where
       given : (k : ℕ) → k < tile_count a.file
           → cond (chosen (asked_of a q) k) (type_bad a.file w t (tile_entry a k)) false
@@ -119,12 +121,12 @@ if-same : {A : Type 0} {v v' : Verdict} {x x' : A} (y : A) → SameRefusal v v' 
 if-same y accepted e = e refl
 if-same y refused e = refl
 
-number_same : {v v' : Verdict} (c c' n n' : ℕ) → SameRefusal v v' → number_in (answer_if v c n) ≡ number_in (answer_if v' c' n')
-number_same c c' n n' accepted = refl
-number_same c c' n n' refused = refl
+number_same : {v v' : Verdict} (c c' : Counts) → SameRefusal v v' → number_of (verdict_in (answer_if v c)) ≡ number_of (verdict_in (answer_if v' c'))
+number_same c c' accepted = refl
+number_same c c' refused = refl
 
-counts_same : {v v' : Verdict} {c c' n n' : ℕ} → SameRefusal v v' → (v ≡ Accepted → (c ≡ c') × (n ≡ n'))
-    → (covered_in (answer_if v c n) ≡ covered_in (answer_if v' c' n')) × (stored_in (answer_if v c n) ≡ stored_in (answer_if v' c' n'))
+counts_same : {v v' : Verdict} {c c' : Counts} → SameRefusal v v' → (v ≡ Accepted → (c.covered ≡ c'.covered) × (c.stored ≡ c'.stored))
+    → (covered_in (answer_if v c) ≡ covered_in (answer_if v' c')) × (stored_in (answer_if v c) ≡ stored_in (answer_if v' c'))
 counts_same accepted e = e refl
 counts_same refused e = (refl, refl)
 
@@ -144,7 +146,7 @@ module _ (a b : Scan) (q : Asked)
     pub calls_by : SameButPlaces (asked_of a q) (asked_of b q)
     unfolding answer target_after map_after
     calls_by = record {
-      number = λ k t m. number_same _ _ _ _ (v (length t) (length m));
+      number = λ k t m. number_same _ _ (v (length t) (length m));
       covered = λ k t m. (counts k t m).0;
       stored = λ k t m. (counts k t m).1;
       target = λ k t m. if-same t (v (length t) (length m)) (λ o. ap (λ (x : Painting). x.target) (plane k t m o));
@@ -156,11 +158,11 @@ calls {a} {b} s q = calls_by a b q (call_same s q) (λ k t m v. painted_same s q
 
 -- ---- where both files are refused, by the same number
 
-call-refused : (a : Scan) (n p : ℕ) → verdict a ≡ Refused n p → (q : Asked) (target map : ℕ) → call_verdict (asked_of a q) target map ≡ Refused n p
+call-refused : (a : Scan) (r : Refusal) → verdict a ≡ Err r → (q : Asked) (target map : ℕ) → call_verdict (asked_of a q) target map ≡ Err r
 unfolding verdict call_verdict
-call-refused a n p e q target map = first-stop (checks a) _ n p e
+call-refused a r e q target map = first-stop (checks a) _ r e
 
-pub calls-refused : {a b : Scan} {n p r : ℕ} → verdict a ≡ Refused n p → verdict b ≡ Refused n r → (q : Asked) → SameButPlaces (asked_of a q) (asked_of b q)
-calls-refused {a} {b} {n} {p} {r} e f q =
-    calls_by a b q (λ target map. rw (call-refused a n p e q target map, call-refused b n r f q target map) refused)
-    (λ k t m v. let c = call-refused a n p e q (length t) (length m) in let z : ◌≡◌ {A = ℕ} 0 1 = cc in absurd (omega arith))
+pub calls-refused : {a b : Scan} {f : Fault} {p r : ℕ} → verdict a ≡ Refused f p → verdict b ≡ Refused f r → (q : Asked) → SameButPlaces (asked_of a q) (asked_of b q)
+calls-refused {a} {b} {f} {p} {r} e g q =
+    calls_by a b q (λ target map. rw (call-refused a _ e q target map, call-refused b _ g q target map) refused)
+    (λ k t m v. let c = call-refused a _ e q (length t) (length m) in let z : ◌≡◌ {A = ℕ} 0 1 = cc in absurd (omega arith))

@@ -9,6 +9,7 @@ use native.Mathlib.Nat.{add-zero, add_assoc, add-sub_cancel_left}
 use lib.ListN.{get_or}
 use lib.Dec.{ltb}
 use borrow.Author.Tests.{lt-ltb, le-ltb, ltb-true, ltb-false}
+use Rattle.std.specs.Prelude.{Option, Some}
 use Rattle.format.specs.Bytes.{u32_at, any_of}
 use Rattle.format.specs.Names.{mask_guid}
 use Rattle.format.specs.Checks.{first}
@@ -19,9 +20,8 @@ use Rattle.format.specs.Directory.{attachment_rows}
 use Rattle.format.specs.Records.{mask_of}
 use Rattle.format.specs.WellFormed.{Chunks, DeclaresChunks, ChunksFill}
 use Rattle.format.specs.declared.Release.{Release}
-use Rattle.format.specs.declared.Verdict.TheVariants.{Accepted}
+use Rattle.format.specs.Checks.{Accepted}
 use Rattle.format.specs.declared.TileMask.{TileMask}
-use Rattle.format.specs.declared.TileMask.TheVariants.{Masked}
 use Rattle.format.proofs.Below.{by_bool}
 use Rattle.format.proofs.Firsts.{first-both}
 use Rattle.format.proofs.ChunkWalk.{Chunked, chunk-fits, chunk-ok, chunks-ok, chunks-accepted}
@@ -37,7 +37,7 @@ use Rattle.equivalent.proofs.Blocks.{metadata-size-same, attachment-size-same, m
 
 -- two masks in attachments that start at a of ds and at b of bs say the same: both or neither is there, they stand equally far into the attachments
 -- and are of one shape, and the same pixels are valid
-pub record SameMask (ds : List ℕ) (a : ℕ) (m : TileMask) (bs : List ℕ) (b : ℕ) (w : TileMask) : Type 0 where
+pub record SameMask (ds : List ℕ) (a : ℕ) (m : Option TileMask) (bs : List ℕ) (b : ℕ) (w : Option TileMask) : Type 0 where
   pub within : mask_within a m ≡ mask_within b w
   pub valid : (x y : ℕ) → unmasked ds m x y ≡ unmasked bs w x y
 
@@ -191,7 +191,8 @@ module _ (n : ℕ) (ds : List ℕ) (a : ℕ) (bs : List ℕ) (b : ℕ) (s : Same
       (λ l. rw (← before-moved a b i n, l) (record { within = refl; valid = λ x y. refl }))
     where
       here : (i : ℕ) (seen : Bool) → Chunked ds (a + n) seen (a + i) → is_mask ds (a + i) ≡ true
-          → SameMask ds a (Masked (a + i) (mask_shape ds (a + i))) bs b (Masked (b + i) (mask_shape bs (b + i)))
+          → SameMask ds a (Some (record { place = a + i; shape = mask_shape ds (a + i) }))
+          bs b (Some (record { place = b + i; shape = mask_shape bs (b + i) }))
       here i seen c m =
           let good = (c.mask m).1 in
           let h : i + 36 ≤ n = omega (arith, (mask_fits ds (a + i) good).fields, c.payload) in

@@ -5,6 +5,7 @@ use mathlib.Core.List.{List}
 use mathlib.Core.Bool.{Bool, false, cond}
 use native.Mathlib.Omega.{arith}
 use lib.IntN.{ℤ}
+use Rattle.std.specs.Prelude.{Some, None}
 use Rattle.format.specs.Bytes.{u32_at, same_at, any_below, least_below, biased, signed32}
 use Rattle.format.specs.Names.{mark_tile}
 use Rattle.format.specs.Entry.{pixel_type, entry_part, compression, pyramid_byte, dimension_count, head_bad}
@@ -13,8 +14,7 @@ use Rattle.format.specs.Entry.{dimension_place, has_letter, repeats, closes_plan
 use Rattle.format.specs.Entry.{has_layers, layers_bad, is_layered, layers_index, layers_place, layer_count}
 use Rattle.format.specs.Choice.{asked_start, asked_layer}
 use Rattle.format.specs.SubBlock.{layer_size, pixels_size}
-use Rattle.format.specs.Records.{extent_at, m_index_of, no_layers, layers_of, dimension_at}
-use Rattle.format.specs.declared.MIndex.TheVariants.{NoM, M}
+use Rattle.format.specs.Records.{extent_at, m_index_of, layers_at, layers_of, dimension_at}
 use Rattle.format.proofs.Below.{by_bool, any-alike, all_alike, least-is, least-alike}
 use Rattle.entries.proofs.EntryLaws.{dimensions-ok}
 use Rattle.selection.specs.Select.{tile_start, start_count, has_start, selects}
@@ -184,7 +184,7 @@ module _ {ds : List ℕ} {e : ℕ} {bs : List ℕ} {f : ℕ} (s : SameEntry ds e
 
   pub m-same : m_index_of ds e ≡ m_index_of bs f
   unfolding m_index_of
-  m-same = by-start 77 (λ x. M (signed32 x)) NoM
+  m-same = by-start 77 (λ x. Some (signed32 x)) None
 
   pub rank_same : (k : ℕ) → rank_of ds k e ≡ rank_of bs k f
   unfolding rank_of
@@ -217,7 +217,7 @@ module _ {ds : List ℕ} {e : ℕ} {bs : List ℕ} {f : ℕ} (s : SameEntry ds e
   pub layers-same : layers_of ds e ≡ layers_of bs f
   unfolding layers_of
   layers-same =
-      of-layers (λ ls d. record { letter = letter ls d; start = signed32 (start ls d); size = size ls d }) no_layers
+      of-layers (λ ls d. Some (layers_at ls d)) None
       (λ d c i. rw (letter-same ds d bs c i, start-same ds d bs c i, size_same ds d bs c i))
 
   pub asked-layer-same : (starts : List ℤ) → asked_layer ds e starts ≡ asked_layer bs f starts

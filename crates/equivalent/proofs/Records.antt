@@ -9,7 +9,8 @@ use lib.Dec.{eqb, leb}
 use borrow.Author.Tests.{eqb-false, leb-false}
 use Rattle.format.specs.Bytes.{part_of}
 use Rattle.format.specs.Scan.{Scan}
-use Rattle.format.specs.Checks.{Check, row, first}
+use Rattle.std.specs.Prelude.{Ok, Err}
+use Rattle.format.specs.Checks.{Verdict, Accepted, Check, row, first}
 use Rattle.format.specs.File.{directory_position, metadata_position, attachment_directory_position}
 use Rattle.format.specs.Entry.{dimension_count, dimension_place, letter_place}
 use Rattle.format.specs.Directory.{entry_count, tile_count}
@@ -19,8 +20,6 @@ use Rattle.format.specs.Records.{tile_entry, tile_file, tile_position, span_if, 
 use Rattle.format.specs.Records.{dimension_verdict, dimension_record, attachment_data_span, attachment_at, attachment_record}
 use Rattle.format.specs.Records.{tile_pixels, tile_metadata, tile_attachment, attachment_data, xml_span, xml_attachment_span, common_xml, common_attachment}
 use Rattle.format.specs.declared.Span.{Span}
-use Rattle.format.specs.declared.Verdict.{Verdict}
-use Rattle.format.specs.declared.Verdict.TheVariants.{Accepted, Refused}
 use Rattle.format.proofs.Below.{by_bool}
 use Rattle.format.proofs.Firsts.{first-pass, first-passed}
 use Rattle.subblocks.specs.Judged.{Judged}
@@ -33,6 +32,7 @@ use Rattle.equivalent.proofs.Blocks.{metadata-size-same, attachment-size-same, d
 use Rattle.equivalent.proofs.Chunks.{mask-same}
 use Rattle.equivalent.proofs.Annexes.{xml-size-same, xml-attachment-size-same, xml-same, xml-attachment-same}
 use Rattle.equivalent.proofs.Annexes.{guid-same, file-type-same, name-same, content-size-same, entry-count-same}
+use Rattle.format.specs.declared.Fault.TheVariants as Fault
 
 -- rows behind those of an accepted scan decide
 behind : (sc : Scan) → verdict sc ≡ Accepted → (rows : List Check) → first (checks sc ++ rows) ≡ first rows
@@ -40,14 +40,14 @@ unfolding verdict
 behind sc h rows = first-pass (checks sc) rows h
 
 -- a number that is not refused as 24
-not-24 : (count n : ℕ) → first (row 24 0 (leb count n) ∷ []) ≡ Accepted → n < count
-not-24 count n h = leb-false count n (first-passed (leb count n) 24 0 Accepted h).0
+not-24 : (count n : ℕ) → first (row Fault.NoSuchNumber 0 (leb count n) ∷ []) ≡ Accepted → n < count
+not-24 count n h = leb-false count n (first-passed (leb count n) _ Accepted h).0
 
 -- parts that a verdict allows: the same where it accepts, and empty where it refuses
 spans-same : (a b : Scan) (v : Verdict) (x y : Span) → (v ≡ Accepted → bytes_at a x ≡ bytes_at b y) → bytes_at a (span_if v x) ≡ bytes_at b (span_if v y)
 unfolding part_of
-spans-same a b Accepted x y h = h refl
-spans-same a b (Refused n p) x y h = refl
+spans-same a b (Ok _) x y h = h refl
+spans-same a b (Err e) x y h = refl
 
 module _ (a b : Scan) (s : SameScans a b) where
   -- ---- tiles
@@ -71,8 +71,8 @@ module _ (a b : Scan) (s : SameScans a b) where
   dimension-verdict-same n k =
       behind a s.accepted _ ∙ (rows ∙ sym (behind b s.accepted-too _))
     where
-      rows : first (row 24 0 (leb (tile_count a.file) n) ∷ row 24 0 (leb (dimension_count a.file (tile_entry a n)) k) ∷ [])
-          ≡ first (row 24 0 (leb (tile_count b.file) n) ∷ row 24 0 (leb (dimension_count b.file (tile_entry b n)) k) ∷ [])
+      rows : first (row Fault.NoSuchNumber 0 (leb (tile_count a.file) n) ∷ row Fault.NoSuchNumber 0 (leb (dimension_count a.file (tile_entry a n)) k) ∷ [])
+          ≡ first (row Fault.NoSuchNumber 0 (leb (tile_count b.file) n) ∷ row Fault.NoSuchNumber 0 (leb (dimension_count b.file (tile_entry b n)) k) ∷ [])
       rows =
           rw (← tiles-same)
           (by_bool (leb (tile_count a.file) n) (λ h. rw h)

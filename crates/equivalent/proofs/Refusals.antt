@@ -4,9 +4,9 @@ use mathlib.Core.Path.{◌≡◌, refl}
 use mathlib.Core.List.{List, [], ◌∷◌, ◌++◌}
 use mathlib.Core.Bool.{Bool}
 use native.Mathlib.Omega.{arith}
-use Rattle.format.specs.Checks.{Check, row, first, rows_below, and_then, number_of}
-use Rattle.format.specs.declared.Verdict.{Verdict}
-use Rattle.format.specs.declared.Verdict.TheVariants.{Accepted, Refused}
+use Rattle.std.specs.Prelude.{Ok, Err}
+use Rattle.format.specs.Checks.{Verdict, Accepted, Refused, Check, row, first, rows_below, and_then, number_of}
+use Rattle.format.specs.declared.Fault.{Fault}
 use Rattle.format.proofs.Below.{by_bool}
 use Rattle.format.proofs.Firsts.{first-append}
 use Rattle.equivalent.specs.Claims.{SameRefusal, accepted, refused}
@@ -14,8 +14,8 @@ use Rattle.equivalent.specs.Claims.{SameRefusal, accepted, refused}
 -- ---- verdicts
 
 pub refusal-self : (v : Verdict) → SameRefusal v v
-refusal-self Accepted = accepted
-refusal-self (Refused n p) = refused
+refusal-self (Ok _) = accepted
+refusal-self (Err e) = refused
 
 pub both-accepted : {v w : Verdict} → v ≡ Accepted → w ≡ Accepted → SameRefusal v w
 both-accepted e f = rw (e, f) accepted
@@ -30,9 +30,9 @@ same_number refused = refl
 
 -- both accept, or both refuse
 pub by-refusal {ℓ} : {P : Type ℓ} {v w : Verdict} → SameRefusal v w → (v ≡ Accepted → w ≡ Accepted → P)
-    → ((n p q : ℕ) → v ≡ Refused n p → w ≡ Refused n q → P) → P
-by-refusal accepted f g = f refl refl
-by-refusal (refused {n} {p} {q}) f g = g n p q refl refl
+    → ((f : Fault) (p q : ℕ) → v ≡ Refused f p → w ≡ Refused f q → P) → P
+by-refusal accepted g h = g refl refl
+by-refusal (refused {f} {p} {q}) g h = h f p q refl refl
 
 pub then_same : {v v' w w' : Verdict} → SameRefusal v v' → SameRefusal w w' → SameRefusal (and_then v w) (and_then v' w')
 then_same accepted t = t
@@ -40,9 +40,9 @@ then_same refused t = refused
 
 -- ---- rows
 
--- of the same number, of which both are given or neither
-pub row_same : (n p q : ℕ) (t u : Bool) → t ≡ u → SameRefusal (first (row n p t ∷ [])) (first (row n q u ∷ []))
-row_same n p q t u e = rw e (by_bool u (λ o. rw o refused) (λ o. rw o accepted))
+-- for the same fault, of which both are given or neither
+pub row_same : (f : Fault) (p q : ℕ) (t u : Bool) → t ≡ u → SameRefusal (first (row f p t ∷ [])) (first (row f q u ∷ []))
+row_same f p q t u e = rw e (by_bool u (λ o. rw o refused) (λ o. rw o accepted))
 
 pub both-same : (cs cs' ds ds' : List Check) → SameRefusal (first cs) (first cs') → SameRefusal (first ds) (first ds')
     → SameRefusal (first (cs ++ ds)) (first (cs' ++ ds'))

@@ -14,7 +14,7 @@ use Rattle.format.specs.Attachments.{metadata_rows}
 use Rattle.format.specs.Rules.{checks, verdict}
 use Rattle.format.specs.declared.Release.{Release}
 use Rattle.format.specs.declared.Release.TheVariants.{R102}
-use Rattle.format.specs.declared.Verdict.TheVariants.{Accepted}
+use Rattle.format.specs.Checks.{Accepted}
 use Rattle.format.proofs.Firsts.{first-both, first-passed, rows-each}
 use Rattle.format.proofs.Acceptance.{verdict-parts}
 use Rattle.format.proofs.Releases.{accepted-older}
@@ -57,7 +57,7 @@ module _ (bs : List ℕ) (h : verdict (scan_of bs R102) ≡ Accepted) where
   unfolding directory_rows
   directory-passed =
       let d = directory_position bs in
-      let both = first-passed (directory_bad bs d) 10 d _ (verdict-parts (scan_of bs R102) h).directory in (
+      let both = first-passed (directory_bad bs d) _ _ (verdict-parts (scan_of bs R102) h).directory in (
         both.0,
         λ k l. unchanging bs d (entry_place bs k) (rows-each (tile_count bs) k (λ j. entry_rows (scan_of bs R102) d (entry_place bs j)) both.1 l),
       )
@@ -113,5 +113,5 @@ any-release a b s r = record {
   refusal = verdict-same s r;
   further = λ rows rows'. both-same (checks (scan_of a.file r)) (checks (scan_of b.file r)) rows rows' (verdict-same s r);
   equivalent = λ h. all-equivalent _ _ (same-under s r h);
-  calls = by-refusal (verdict-same s r) (λ h k. calls (same-under s r h)) (λ n p q e f. calls-refused e f);
+  calls = by-refusal (verdict-same s r) (λ h k. calls (same-under s r h)) (λ f p q e g. calls-refused e g);
 }

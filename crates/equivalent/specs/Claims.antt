@@ -1,9 +1,9 @@
 -- What two scans that say the same have in common: as many tiles and attachments, the same records but for places, the same parts byte for byte, and the
 -- same planes, counts and refusals, places aside; and so under any release. `proofs/Equivalence` and `proofs/Releases` prove it.
-use Rattle.std.specs.Prelude.{ℕ, ◌-◌, ◌<◌, ◌≡◌, List, ◌++◌}
+use Rattle.std.specs.Prelude.{ℕ, ◌-◌, ◌<◌, ◌≡◌, List, ◌++◌, Option, Some, None}
 use Rattle.format.specs.Scan.{Scan, scan_of}
 use Rattle.format.specs.Bytes.{part_of}
-use Rattle.format.specs.Checks.{Check, first}
+use Rattle.format.specs.Checks.{Verdict, Accepted, Refused, Check, first, number_of, verdict_in}
 use Rattle.format.specs.Entry.{dimension_count}
 use Rattle.format.specs.Directory.{tile_count}
 use Rattle.format.specs.Attachments.{attachment_count, attachment_guid, attachment_type, attachment_name}
@@ -11,14 +11,12 @@ use Rattle.format.specs.Rules.{checks, verdict, tile_verdict, attachment_verdict
 use Rattle.format.specs.Records.{tile_entry, tile_record, dimension_verdict, dimension_record, attachment_record}
 use Rattle.format.specs.Records.{tile_pixels, tile_metadata, tile_attachment, attachment_data, common_xml, common_attachment}
 use Rattle.format.specs.declared.Release.{Release}
-use Rattle.format.specs.declared.Verdict.{Verdict}
-use Rattle.format.specs.declared.Verdict.TheVariants.{Accepted, Refused}
+use Rattle.format.specs.declared.Fault.{Fault}
 use Rattle.format.specs.declared.Span.{Span}
 use Rattle.format.specs.declared.Tile.{Tile}
 use Rattle.format.specs.declared.TileMask.{TileMask}
-use Rattle.format.specs.declared.TileMask.TheVariants.{Unmasked, Masked}
 use Rattle.plane.specs.Turns.{Kind}
-use Rattle.question.specs.Call.{Asked, answer, target_after, map_after, number_in, covered_in, stored_in}
+use Rattle.question.specs.Call.{Asked, answer, target_after, map_after, covered_in, stored_in}
 use Rattle.equivalent.specs.Same.{Same, SameScans, attachment_entry_of}
 
 -- ---- refusals
@@ -26,14 +24,14 @@ use Rattle.equivalent.specs.Same.{Same, SameScans, attachment_entry_of}
 -- verdicts of the same number, places aside: both accept, or both refuse with it
 pub data SameRefusal : Verdict → Verdict → Type 0 where
   accepted : SameRefusal Accepted Accepted
-  refused : {n p q : ℕ} → SameRefusal (Refused n p) (Refused n q)
+  refused : {f : Fault} {p q : ℕ} → SameRefusal (Refused f p) (Refused f q)
 
 -- ---- records
 
 -- a mask in an attachment that starts at a: its place counted from there. It is found from there on, so its place is not before a
-abbrev pub mask_within : ℕ → TileMask → TileMask
-mask_within a Unmasked = Unmasked
-mask_within a (Masked place shape) = Masked (place - a) shape
+abbrev pub mask_within : ℕ → Option TileMask → Option TileMask
+mask_within a None = None
+mask_within a (Some m) = Some (record { place = m.place - a; shape = m.shape })
 
 -- two tile records agree in every field that names no place, and their masks stand equally far into the attachments
 pub record SameTile (s t : Tile) : Type 0 where
@@ -71,7 +69,7 @@ asked_of sc q = record { scan = sc; starts = q.starts; any_scene = q.any_scene; 
 
 -- either composer, over any lent bytes, gives the same refusal number, covered count, store count, target and map
 pub record SameButPlaces (q r : Asked) : Type 0 where
-  pub number : (k : Kind) (t m : List ℕ) → number_in (answer k q t m) ≡ number_in (answer k r t m)
+  pub number : (k : Kind) (t m : List ℕ) → number_of (verdict_in (answer k q t m)) ≡ number_of (verdict_in (answer k r t m))
   pub covered : (k : Kind) (t m : List ℕ) → covered_in (answer k q t m) ≡ covered_in (answer k r t m)
   pub stored : (k : Kind) (t m : List ℕ) → stored_in (answer k q t m) ≡ stored_in (answer k r t m)
   pub target : (k : Kind) (t m : List ℕ) → target_after k q t m ≡ target_after k r t m

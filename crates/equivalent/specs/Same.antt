@@ -9,7 +9,7 @@ use Rattle.format.specs.Directory.{tile_count}
 use Rattle.format.specs.Attachments.{xml_size, xml_attachment_size, attachment_entry, attachment_entry_count, attachment_position, attachment_data_size}
 use Rattle.format.specs.Rules.{verdict}
 use Rattle.format.specs.Records.{tile_entry, tile_file, tile_position}
-use Rattle.format.specs.declared.Verdict.TheVariants.{Accepted}
+use Rattle.format.specs.Checks.{Accepted}
 
 -- the n bytes at a of ds are those at b of bs, and as many of them lie in the one file as in the other
 abbrev pub Same : ℕ → List ℕ → ℕ → List ℕ → ℕ → Type 0

@@ -1,5 +1,4 @@
 -- Laws of copied and equal bytes, words, products and signed numbers.
-pub mod Copying
 pub mod Equal
 pub mod Products
 pub mod Signed

@@ -8,18 +8,12 @@ ghost use Rattle.format.specs.Bytes.{u32_at, u64_at, same_at, same_range, signed
 ghost use Rattle.format.specs.Records.{span};
 ghost use Rattle.format.specs.Views.{View};
 
-fn wide(x: u8) -> u64
-    ensures { (result ≡ x) × (result < 256) }
-{
-    x as u64
-}
-
 // The byte at p.
 pub fn byte_at(s: &[u8], p: u64) -> u64
     requires { p < length s.now }
     ensures { (result ≡ get_or s.now p 0) × (result < 256) }
 {
-    wide(s[p as usize])
+    u64::from(s[p as usize])
 }
 
 // The 32 bits at p.
@@ -27,10 +21,8 @@ pub fn u32_at(s: &[u8], p: u64) -> u64
     requires { p + 4 ≤ length s.now }
     ensures { (result ≡ u32_at s.now p) × (result < 2 ^ 32) }
 {
-    byte_at(s, p)
-        + 256 * byte_at(s, p + 1)
-        + 65536 * byte_at(s, p + 2)
-        + 16777216 * byte_at(s, p + 3)
+    let at = p as usize;
+    u64::from(u32::from_le_bytes([s[at], s[at + 1], s[at + 2], s[at + 3]]))
 }
 
 // The 64 bits at p.
@@ -38,7 +30,17 @@ pub fn u64_at(s: &[u8], p: u64) -> u64
     requires { p + 8 ≤ length s.now }
     ensures { result ≡ u64_at s.now p }
 {
-    u32_at(s, p) + 4294967296 * u32_at(s, p + 4)
+    let at = p as usize;
+    u64::from_le_bytes([
+        s[at],
+        s[at + 1],
+        s[at + 2],
+        s[at + 3],
+        s[at + 4],
+        s[at + 5],
+        s[at + 6],
+        s[at + 7],
+    ])
 }
 
 // Whether the n bytes at a of s are those at b of t. No byte ends the loop early, so that it is compiled to vectors.
@@ -50,10 +52,8 @@ pub fn same_range(n: u64, s: &[u8], a: u64, t: &[u8], b: u64) -> bool
     let from = a as usize;
     let to = b as usize;
     let mut off: u8 = 0;
-    let mut i: usize = 0;
-    while i < count {
-        off = off | (s[from + i] ^ t[to + i]);
-        i += 1;
+    for i in 0..count {
+        off |= s[from + i] ^ t[to + i];
     }
     off == 0
 }
@@ -96,11 +96,8 @@ pub fn copy_out(out: &mut [u8], s: &[u8], p: u64)
     ensures { out.new ≡ part_of s.now p (length out.old) }
 {
     let at = p as usize;
-    let mut i: usize = 0;
-    while i < out.len() {
-        out[i] = s[at + i];
-        i += 1;
-    }
+    let end = at + out.len();
+    out.copy_from_slice(&s[at..end]);
 }
 
 // The value of an Int of these bits.
@@ -108,10 +105,7 @@ pub fn signed_of(x: u64) -> i32
     requires { x < 2 ^ 32 }
     ensures { result ≡ signed32 x }
 {
-    if x < 2147483648 {
-        return x as i32;
-    }
-    ((x as i64) - 4294967296) as i32
+    (x as u32).cast_signed()
 }
 
 // The value of an Int of these bits plus 2^31.

@@ -11,7 +11,7 @@ use Rattle.format.specs.Directory.{directory_rows}
 use Rattle.format.specs.Attachments.{metadata_rows, attachments_rows}
 use Rattle.format.specs.Rules.{checks, verdict}
 use Rattle.format.specs.WellFormed.{WellFormed}
-use Rattle.format.specs.declared.Verdict.TheVariants.{Accepted}
+use Rattle.format.specs.Checks.{Accepted}
 use Rattle.format.proofs.Firsts.{first-append, first-both, passed}
 use Rattle.format.proofs.SegmentLaws.{walked-places, names-ok, names-accepted}
 use Rattle.format.proofs.Walk.{segments-chain, chain-segments}

@@ -11,7 +11,7 @@ use Rattle.format.specs.Bytes.{any_of}
 use Rattle.format.specs.Checks.{first}
 use Rattle.format.specs.Masks.{chunk_size, next_chunk, chunk_bad, is_mask, mask_bad, mask_refused, chunk_rows, chunks_rows}
 use Rattle.format.specs.WellFormed.{Chain, Each, Chunks}
-use Rattle.format.specs.declared.Verdict.TheVariants.{Accepted}
+use Rattle.format.specs.Checks.{Accepted}
 use Rattle.format.proofs.Below.{by_bool, none, or-none}
 use Rattle.format.proofs.Firsts.{first-both, first-pass, passed}
 use Rattle.format.proofs.Members.{each_more}

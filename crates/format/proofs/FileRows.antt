@@ -22,12 +22,13 @@ use Rattle.format.specs.Attachments.{attachment_entry_rows, attachment_directory
 use Rattle.format.specs.WellFormed.{DeclaresChunks, ChunksFill, Names, Entry, AttachmentEntry, AttachmentDirectory}
 use Rattle.format.specs.declared.Release.{Release}
 use Rattle.format.specs.declared.Release.TheVariants.{R102, R12}
-use Rattle.format.specs.declared.Verdict.TheVariants.{Accepted}
+use Rattle.format.specs.Checks.{Accepted}
 use Rattle.format.proofs.Below.{by_bool}
 use Rattle.format.proofs.Firsts.{first-passed, passed, passed-rest, rows-each, rows_all}
 use Rattle.format.proofs.SegmentLaws.{names-ok, names-accepted}
 use Rattle.format.proofs.Declaring.{container-iff}
 use Rattle.format.proofs.ChunkWalk.{chunks-ok, chunks-accepted}
+use Rattle.format.specs.declared.Fault.TheVariants as Fault
 
 -- ---- a sub-block's attachment
 
@@ -132,7 +133,7 @@ module _ (bs : List ℕ) where
   -- ---- the metadata segment
 
   abbrev metadata_row : List Check
-  metadata_row = row 10 (metadata_position bs) (metadata_bad bs (metadata_position bs)) ∷ []
+  metadata_row = row Fault.Directory (metadata_position bs) (metadata_bad bs (metadata_position bs)) ∷ []
 
   pub metadata-ok : names_none_but0 bs (metadata_position bs) name_metadata ≡ false → first (metadata_rows bs) ≡ Accepted
       → Optional bs (metadata_position bs) name_metadata (metadata_bad bs (metadata_position bs) ≡ false)
@@ -152,7 +153,7 @@ module _ (bs : List ℕ) where
       → AttachmentDirectory bs (walked bs) t
   unfolding attachment_directory_rows
   entries-ok t n e =
-      let f = first-passed (attachment_directory_bad bs t) 10 t (first (rows_below (attachment_entry_count bs t) _)) e in
+      let f = first-passed (attachment_directory_bad bs t) _ (first (rows_below (attachment_entry_count bs t) _)) e in
       record { names = n; directory = f.0; entries = λ k h. attachment-entry-ok bs (attachment_entry t k) (rows-each (attachment_entry_count bs t) k _ f.1 h) }
 
   entries-accepted : (t : ℕ) → AttachmentDirectory bs (walked bs) t → first (attachment_directory_rows bs t) ≡ Accepted
@@ -187,7 +188,7 @@ module _ (sc : Scan) where
   pub directory-ok : first (directory_rows sc) ≡ Accepted → (directory_bad sc.file d ≡ false) × Entries
   unfolding directory_rows
   directory-ok e =
-      let f = first-passed (directory_bad sc.file d) 10 d (first (rows_below (tile_count sc.file) _)) e in
+      let f = first-passed (directory_bad sc.file d) _ (first (rows_below (tile_count sc.file) _)) e in
       (f.0, λ k h. entry-ok sc d (entry_place sc.file k) (rows-each (tile_count sc.file) k _ f.1 h))
 
   pub directory-accepted : directory_bad sc.file d ≡ false → Entries → first (directory_rows sc) ≡ Accepted

@@ -2,6 +2,7 @@
 pub mod Flags
 pub mod Answering
 pub mod Below
+pub mod Ranges
 pub mod Parts
 pub mod Firsts
 pub mod Members

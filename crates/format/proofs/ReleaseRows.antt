@@ -7,7 +7,7 @@ use native.Mathlib.Omega.{arith}
 use lib.Dec.{eqb, ltb}
 use lib.ListN.{length}
 use borrow.Author.Tests.{ne_eqb, eqb-false}
-use Rattle.format.specs.Checks.{Check, row, first, rows_below}
+use Rattle.format.specs.Checks.{Verdict, Refused, Check, number, row, first, rows_below}
 use Rattle.format.specs.Scan.{scan_of}
 use Rattle.format.specs.Segments.{length_bad, next_segment, segment_rows, walk_rows, segments_rows}
 use Rattle.format.specs.File.{metadata_position, attachment_directory_position, directory_position, file_rows}
@@ -20,13 +20,12 @@ use Rattle.format.specs.Attachments.{attachment_entry_rows, attachment_directory
 use Rattle.format.specs.Rules.{checks}
 use Rattle.format.specs.Releases.{NoChunkRefused, without_chunks}
 use Rattle.format.specs.declared.Release.TheVariants.{R102, R12}
-use Rattle.format.specs.declared.Verdict.{Verdict}
-use Rattle.format.specs.declared.Verdict.TheVariants.{Refused}
 use Rattle.format.proofs.Below.{by_bool, or-none}
+use Rattle.format.specs.declared.Fault.TheVariants as Fault
 
 -- a row of 17 or 18
 abbrev of_chunk : Check → Bool
-of_chunk c = eqb c.number 17 || eqb c.number 18
+of_chunk c = eqb (number c.fault) 17 || eqb (number c.fault) 18
 
 -- rows of which none is one
 abbrev pub Chunkless : List Check → Type 0
@@ -63,7 +62,7 @@ module _ (bs : List ℕ) where
 
   segments-chunkless : Chunkless (segments_rows bs)
   unfolding segments_rows without_chunks
-  segments-chunkless = ap (λ x. row 1 0 (length_bad bs) ∷ x) (walk-chunkless 8192 0)
+  segments-chunkless = ap (λ x. row Fault.Length 0 (length_bad bs) ∷ x) (walk-chunkless 8192 0)
 
   file-chunkless : Chunkless (file_rows bs)
   unfolding file_rows without_chunks
@@ -75,7 +74,7 @@ module _ (bs : List ℕ) where
 
   entries-chunkless : (t : ℕ) → Chunkless (attachment_directory_rows bs t)
   unfolding attachment_directory_rows attachment_entry_rows without_chunks
-  entries-chunkless t = ap (λ x. row 10 t (attachment_directory_bad bs t) ∷ x) (without-below (attachment_entry_count bs t) _ _ (λ k. refl))
+  entries-chunkless t = ap (λ x. row Fault.Directory t (attachment_directory_bad bs t) ∷ x) (without-below (attachment_entry_count bs t) _ _ (λ k. refl))
 
   attachments-chunkless : Chunkless (attachments_rows bs)
   unfolding attachments_rows without_chunks
@@ -103,7 +102,7 @@ module _ (bs : List ℕ) where
   without-directory : without_chunks (directory_rows (scan_of bs R12)) ≡ directory_rows (scan_of bs R102)
   unfolding directory_rows without_chunks
   without-directory =
-      ap (λ x. row 10 (directory_position bs) (directory_bad bs (directory_position bs)) ∷ x)
+      ap (λ x. row Fault.Directory (directory_position bs) (directory_bad bs (directory_position bs)) ∷ x)
       (without-below (tile_count bs) _ _ (λ k. without-entry (directory_position bs) (entry_place bs k)))
 
   -- ---- all of them
@@ -117,7 +116,7 @@ module _ (bs : List ℕ) where
 
 module _ (c : Check) where
   abbrev refusal : Verdict
-  refusal = Refused c.number c.place
+  refusal = Refused c.fault c.place
 
   not-of : of_chunk c ≡ false → NoChunkRefused refusal
   not-of e = let both = or-none _ _ e in record { not_17 = eqb-false _ _ both.0; not_18 = eqb-false _ _ both.1 }

@@ -13,8 +13,8 @@ use Rattle.format.specs.Records.{tile_pixels, tile_metadata, tile_attachment, at
 use Rattle.format.specs.Releases.{NoChunkRefused, without_chunks, Judging, NeverChunkRefused, SameRecords, SameViews, AllReleases}
 use Rattle.format.specs.declared.Release.{Release}
 use Rattle.format.specs.declared.Release.TheVariants.{R102, R12}
-use Rattle.format.specs.declared.Verdict.{Verdict}
-use Rattle.format.specs.declared.Verdict.TheVariants.{Accepted, Refused}
+use Rattle.std.specs.Prelude.{Ok, Err}
+use Rattle.format.specs.Checks.{Verdict, Accepted}
 use Rattle.format.proofs.Firsts.{first-append}
 use Rattle.format.proofs.ReleaseRows.{Chunkless, without-both, without-checks, without-never, without-first}
 
@@ -37,8 +37,8 @@ module _ (bs : List ℕ) where
   never-further rows n = rw (first-append (checks (scan_of bs R102)) rows, ← without-checks bs) (go (first (without_chunks (checks (scan_of bs R12)))) (without-never _))
     where
       go : (v : Verdict) → NoChunkRefused v → NoChunkRefused (and_then v (first rows))
-      go Accepted a = n
-      go (Refused m p) a = a
+      go (Ok _) a = n
+      go (Err e) a = a
 
   pub never-chunks : NeverChunkRefused bs
   unfolding verdict tile_verdict dimension_verdict attachment_verdict without_chunks

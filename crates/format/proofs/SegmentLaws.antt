@@ -11,7 +11,7 @@ use Rattle.format.specs.Checks.{first}
 use Rattle.format.specs.Segments.{allocated_size, used_size, room, next_segment, length_bad, allocated_bad, used_bad, end_bad, sizes_bad, role_bad}
 use Rattle.format.specs.Segments.{segment_rows, walk_rows, walked_from, walked, member, walked_as}
 use Rattle.format.specs.WellFormed.{Each, Segment, Names}
-use Rattle.format.specs.declared.Verdict.TheVariants.{Accepted}
+use Rattle.format.specs.Checks.{Accepted}
 use Rattle.format.proofs.Below.{by_bool, none, and_both}
 use Rattle.format.proofs.Firsts.{by-verdict, passed, first-pass}
 use Rattle.format.proofs.Members.{member-all, among-member, member-among, each_more}
@@ -105,7 +105,7 @@ module _ (bs : List ℕ) (P : ℕ → ℕ → List ℕ → Type 0) (stop : (n p 
       by_bool (ltb p (length bs))
       (λ e. by-verdict (first (segment_rows bs p))
       (λ f. rw (e, f) (more n p _ (ltb-true p (length bs) e) (segment-ok bs p f) (walked-ind n (next_segment bs p))))
-      (λ m a f. rw (e, f) (stop (suc n) p)))
+      (λ r f. rw (e, f) (stop (suc n) p)))
       (λ e. rw e (stop (suc n) p))
 
 abbrev pub Rising : List ℕ → Type 0

@@ -10,7 +10,7 @@ use borrow.Author.Tests.{ltb-true, ltb-false}
 use Rattle.format.specs.Checks.{first}
 use Rattle.format.specs.Segments.{next_segment, length_bad, segment_rows, walk_rows, walked_from, walked, segments_rows}
 use Rattle.format.specs.WellFormed.{Chain, Each, Segment}
-use Rattle.format.specs.declared.Verdict.TheVariants.{Accepted}
+use Rattle.format.specs.Checks.{Accepted}
 use Rattle.format.proofs.Firsts.{first-both, first-passed}
 use Rattle.format.proofs.Below.{by_bool}
 use Rattle.format.proofs.SegmentLaws.{length-ok, sizes-ok, room_within, role-room, walked-places, next-is, segment-ok, segment-accepted}
@@ -21,7 +21,7 @@ module _ (bs : List ℕ) where
   pub walk-chain : (n p : ℕ) → p ≤ length bs → first (walk_rows n bs p) ≡ Accepted → Chain (next_segment bs) p (length bs) (walked_from n bs p)
   unfolding walk_rows
   walk-chain zero p h e =
-      let l = ltb-false p (length bs) (first-passed (ltb p (length bs)) 4 p Accepted e).0 in
+      let l = ltb-false p (length bs) (first-passed (ltb p (length bs)) _ Accepted e).0 in
       rw (walked_end bs p 0 l) (omega arith)
   walk-chain (suc n) p h e =
       by_bool (ltb p (length bs))
@@ -47,7 +47,7 @@ module _ (bs : List ℕ) where
   pub segments-chain : first (segments_rows bs) ≡ Accepted → (length_bad bs ≡ false) × Chain (next_segment bs) 0 (length bs) (walked bs)
   unfolding segments_rows walked
   segments-chain e =
-      let f = first-passed (length_bad bs) 1 0 (first (walk_rows 8192 bs 0)) e in
+      let f = first-passed (length_bad bs) _ (first (walk_rows 8192 bs 0)) e in
       (f.0, rw f.0 (walk-chain 8192 0 zero-le f.1))
 
   pub chain-segments : (l : List ℕ) → length_bad bs ≡ false → Chain (next_segment bs) 0 (length bs) l → Each (Segment bs) l → length l ≤ 8192

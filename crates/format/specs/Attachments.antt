@@ -5,6 +5,7 @@ use Rattle.format.specs.Names.{name_attachment, mark_attachment}
 use Rattle.format.specs.Checks.{Check, row, rows_below}
 use Rattle.format.specs.Segments.{room, walked_as}
 use Rattle.format.specs.File.{metadata_position, attachment_directory_position}
+use Rattle.format.specs.declared.Fault.TheVariants as Fault
 
 -- ---- the metadata segment at m: XmlSize Int 0, AttachmentSize Int 4, both counted from 256
 
@@ -26,7 +27,7 @@ metadata_bad bs m =
 unfoldable pub metadata_rows : List ℕ → List Check
 metadata_rows bs =
     cond (eqb (metadata_position bs) 0) []
-    (row 10 (metadata_position bs) (metadata_bad bs (metadata_position bs)) ∷ [])
+    (row Fault.Directory (metadata_position bs) (metadata_bad bs (metadata_position bs)) ∷ [])
 
 -- ---- the attachment directory at t: EntryCount Int 0, entries of 128 bytes from 256
 
@@ -102,17 +103,17 @@ attachment_data_bad bs q =
 -- each A1 entry: 11, 7, 14, 15, 16
 unfoldable pub attachment_entry_rows : List ℕ → ℕ → List Check
 attachment_entry_rows bs e =
-    row 11 e (attachment_entry_bad bs e) ∷
-    row 7 e (not (eqb (attachment_part bs e) 0)) ∷
-    row 14 e (not (walked_as bs (attachment_position bs e) name_attachment)) ∷
-    row 15 (attachment_position bs e) (attachment_bad bs e bs (attachment_position bs e)) ∷
-    row 16 (attachment_position bs e) (attachment_data_bad bs (attachment_position bs e)) ∷
+    row Fault.Entry e (attachment_entry_bad bs e) ∷
+    row Fault.FilePart e (not (eqb (attachment_part bs e) 0)) ∷
+    row Fault.NamedSegment e (not (walked_as bs (attachment_position bs e) name_attachment)) ∷
+    row Fault.Copy (attachment_position bs e) (attachment_bad bs e bs (attachment_position bs e)) ∷
+    row Fault.Sizes (attachment_position bs e) (attachment_data_bad bs (attachment_position bs e)) ∷
     []
 
 -- the attachment directory at t: 10 for all its entries, then each entry
 unfoldable pub attachment_directory_rows : List ℕ → ℕ → List Check
 attachment_directory_rows bs t =
-    row 10 t (attachment_directory_bad bs t) ∷
+    row Fault.Directory t (attachment_directory_bad bs t) ∷
     rows_below (attachment_entry_count bs t) (λ k. attachment_entry_rows bs (attachment_entry t k))
 
 unfoldable pub attachments_rows : List ℕ → List Check

@@ -10,6 +10,7 @@ use Rattle.format.specs.Entry.{pixel_type, pixel_bytes, file_position, entry_par
 use Rattle.format.specs.SubBlock.{attachment_size, sub_block_bad, contents_bad, attachment_place}
 use Rattle.format.specs.Masks.{chunks_rows, has_chunks}
 use Rattle.format.specs.declared.Release.{Release}
+use Rattle.format.specs.declared.Fault.TheVariants as Fault
 
 -- ---- EntryCount Int 0, entries from 128, one after the other
 
@@ -42,25 +43,25 @@ directory_bad bs d =
 
 unfoldable pub head_rows : List ℕ → ℕ → ℕ → List Check
 head_rows bs d e =
-    row 10 d (ltb (room_end bs d) (e + 32)) ∷
-    row 11 e (head_bad bs e) ∷
-    row 10 d (ltb (room_end bs d) (next_entry bs e)) ∷
+    row Fault.Directory d (ltb (room_end bs d) (e + 32)) ∷
+    row Fault.Entry e (head_bad bs e) ∷
+    row Fault.Directory d (ltb (room_end bs d) (next_entry bs e)) ∷
     []
 
 -- the entry stands at e of the file ds, its sub-block in the file bs
 unfoldable pub tile_rows : List ℕ → ℕ → List ℕ → List Check
 tile_rows ds e bs =
-    row 11 e (dimensions_bad ds e) ∷
-    row 12 e (eqb (pixel_bytes (pixel_type ds e)) 0) ∷
-    row 13 e (not (eqb (compression ds e) 0)) ∷
-    row 7 e (not (eqb (entry_part ds e) 0)) ∷
-    row 14 e (not (walked_as bs (file_position ds e) name_sub_block)) ∷
+    row Fault.Entry e (dimensions_bad ds e) ∷
+    row Fault.PixelType e (eqb (pixel_bytes (pixel_type ds e)) 0) ∷
+    row Fault.Compression e (not (eqb (compression ds e) 0)) ∷
+    row Fault.FilePart e (not (eqb (entry_part ds e) 0)) ∷
+    row Fault.NamedSegment e (not (walked_as bs (file_position ds e) name_sub_block)) ∷
     []
 
 unfoldable pub sub_block_rows : List ℕ → ℕ → List ℕ → ℕ → List Check
 sub_block_rows ds e bs q =
-    row 15 q (sub_block_bad ds e bs q) ∷
-    row 16 q (contents_bad ds e bs q) ∷
+    row Fault.Copy q (sub_block_bad ds e bs q) ∷
+    row Fault.Sizes q (contents_bad ds e bs q) ∷
     []
 
 -- the attachment's chunks, where it is a chunk container
@@ -79,5 +80,5 @@ entry_rows sc d e =
 
 unfoldable pub directory_rows : Scan → List Check
 directory_rows sc =
-    row 10 (directory_position sc.file) (directory_bad sc.file (directory_position sc.file)) ∷
+    row Fault.Directory (directory_position sc.file) (directory_bad sc.file (directory_position sc.file)) ∷
     rows_below (tile_count sc.file) (λ k. entry_rows sc (directory_position sc.file) (entry_place sc.file k))

@@ -4,6 +4,7 @@ use Rattle.format.specs.Bytes.{u32_at, u64_at}
 use Rattle.format.specs.Names.{name_directory, name_metadata, name_attachment_directory}
 use Rattle.format.specs.Checks.{Check, row}
 use Rattle.format.specs.Segments.{walked_as}
+use Rattle.format.specs.declared.Fault.TheVariants as Fault
 
 -- offsets count from the end of the header: Major Int 0, FilePart Int 48, DirectoryPosition Long 52, MetadataPosition Long 60,
 -- UpdatePending Int 68, AttachmentDirectoryPosition Long 72
@@ -36,10 +37,10 @@ names_none_but0 bs q name = cond (eqb q 0) false (names_none bs q name)
 
 unfoldable pub file_rows : List ℕ → List Check
 file_rows bs =
-    row 6 0 (not (eqb (major bs) 1)) ∷
-    row 7 0 (not (eqb (file_part bs) 0)) ∷
-    row 8 0 (not (eqb (update_pending bs) 0)) ∷
-    row 9 84 (names_none bs (directory_position bs) name_directory) ∷
-    row 9 92 (names_none_but0 bs (metadata_position bs) name_metadata) ∷
-    row 9 104 (names_none_but0 bs (attachment_directory_position bs) name_attachment_directory) ∷
+    row Fault.Major 0 (not (eqb (major bs) 1)) ∷
+    row Fault.FilePart 0 (not (eqb (file_part bs) 0)) ∷
+    row Fault.UpdatePending 0 (not (eqb (update_pending bs) 0)) ∷
+    row Fault.Positions 84 (names_none bs (directory_position bs) name_directory) ∷
+    row Fault.Positions 92 (names_none_but0 bs (metadata_position bs) name_metadata) ∷
+    row Fault.Positions 104 (names_none_but0 bs (attachment_directory_position bs) name_attachment_directory) ∷
     []

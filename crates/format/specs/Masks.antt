@@ -1,6 +1,6 @@
 -- The chunk container and the valid-pixel mask: chunks, the refusals 17 and 18, and which pixels are valid.
 -- A chunk is given by the file offset of its header; `end` is the file offset behind the attachment.
-use Rattle.std.specs.Prelude.{ℕ, zero, suc, ◌+◌, ◌-◌, ◌*◌, ◌/◌, ◌%◌, ◌^◌, List, [], ◌∷◌, ◌++◌, Bool, false, cond, not, ◌||◌, get_or, eqb, ltb}
+use Rattle.std.specs.Prelude.{ℕ, zero, suc, ◌+◌, ◌-◌, ◌*◌, ◌/◌, ◌%◌, ◌^◌, List, [], ◌∷◌, ◌++◌, Bool, false, cond, not, ◌||◌, get_or, eqb, ltb, Option, Some, None}
 use Rattle.format.specs.Bytes.{u32_at, same_at, any_of, negative32}
 use Rattle.format.specs.Names.{mask_guid}
 use Rattle.format.specs.Container.{is_container}
@@ -9,10 +9,9 @@ use Rattle.format.specs.SubBlock.{metadata_size, metadata_place}
 use Rattle.format.specs.declared.Release.{Release}
 use Rattle.format.specs.declared.Release.TheVariants.{R102, R12}
 use Rattle.format.specs.declared.MaskShape.{MaskShape}
-use Rattle.format.specs.declared.Content.TheVariants.{Mask, Other}
+use Rattle.format.specs.declared.Fault.TheVariants as Fault
 use Rattle.format.specs.declared.Chunk.{Chunk}
 use Rattle.format.specs.declared.TileMask.{TileMask}
-use Rattle.format.specs.declared.TileMask.TheVariants.{Unmasked, Masked}
 
 -- ---- under 1.2 the attachment is a chunk container when the sub-block's metadata declare one; under 1.02 every attachment is plain bytes
 
@@ -78,8 +77,8 @@ mask_refused bs seen c = cond (is_mask bs c) (any_of (seen ∷ mask_bad bs c ∷
 
 unfoldable pub chunk_rows : List ℕ → ℕ → Bool → ℕ → List Check
 chunk_rows bs end seen c =
-    row 17 c (chunk_bad bs end c) ∷
-    row 18 c (mask_refused bs seen c) ∷
+    row Fault.Chunk c (chunk_bad bs end c) ∷
+    row Fault.Mask c (mask_refused bs seen c) ∷
     []
 
 -- the chunks from c on, of which there are at most n; `seen`: there was a mask before
@@ -96,15 +95,15 @@ unfoldable pub mask_shape : List ℕ → ℕ → MaskShape
 mask_shape bs c = record { width = mask_width bs c; height = mask_height bs c; stride = mask_stride bs c }
 
 unfoldable pub chunk_at : List ℕ → ℕ → Chunk
-chunk_at bs c = record { place = c; length = chunk_size bs c; content = cond (is_mask bs c) (Mask (mask_shape bs c)) Other }
+chunk_at bs c = record { place = c; length = chunk_size bs c; mask = cond (is_mask bs c) (Some (mask_shape bs c)) None }
 
 -- the mask among the chunks from c on, of which there are at most n
-unfoldable pub mask_from : ℕ → List ℕ → ℕ → ℕ → TileMask
-mask_from zero bs end c = Unmasked
+unfoldable pub mask_from : ℕ → List ℕ → ℕ → ℕ → Option TileMask
+mask_from zero bs end c = None
 mask_from (suc n) bs end c =
     cond (ltb c end)
-    (cond (is_mask bs c) (Masked c (mask_shape bs c)) (mask_from n bs end (next_chunk bs c)))
-    Unmasked
+    (cond (is_mask bs c) (Some (record { place = c; shape = mask_shape bs c })) (mask_from n bs end (next_chunk bs c)))
+    None
 
 -- ---- pixel (x, y) is valid when x < width, y < height, and bit 7 − (x mod 8) of byte 16 + y × stride + x div 8 is one
 

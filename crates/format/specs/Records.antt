@@ -1,9 +1,9 @@
 -- What is handed out of an accepted file: the records of a tile, of a dimension, of an attachment, and the stretches of the views.
-use Rattle.std.specs.Prelude.{ℕ, ◌+◌, List, [], ◌∷◌, ◌++◌, cond, eqb, leb, pos}
+use Rattle.std.specs.Prelude.{ℕ, ◌+◌, List, [], ◌∷◌, ◌++◌, cond, eqb, leb, ℤ, Option, Some, None}
 use Rattle.std.specs.Float.Ieee.{of_bits}
 use Rattle.std.specs.Float.{binary32}
 use Rattle.format.specs.Bytes.{any_below, signed32}
-use Rattle.format.specs.Checks.{row, first, if_accepted}
+use Rattle.format.specs.Checks.{Verdict, row, first, if_accepted}
 use Rattle.format.specs.Scan.{Scan, block_file}
 use Rattle.format.specs.File.{metadata_position, attachment_directory_position}
 use Rattle.format.specs.Entry.{pixel_type, file_position, pyramid_byte, dimension_count, letter, start, size, coordinate_bits, stored, dimension_place, has_letter, letter_place}
@@ -14,24 +14,14 @@ use Rattle.format.specs.Directory.{tile_count, entry_place}
 use Rattle.format.specs.Attachments.{xml_size, xml_attachment_size, attachment_entry, attachment_position, attachment_data_size}
 use Rattle.format.specs.Rules.{checks, verdict, tile_verdict, attachment_verdict}
 use Rattle.format.specs.declared.Release.{Release}
-use Rattle.format.specs.declared.Verdict.{Verdict}
-use Rattle.format.specs.declared.Verdict.TheVariants as Is
 use Rattle.format.specs.declared.Span.{Span}
+use Rattle.format.specs.declared.Fault.TheVariants as Fault
 use Rattle.format.specs.declared.Extent.{Extent}
-use Rattle.format.specs.declared.MIndex.{MIndex}
-use Rattle.format.specs.declared.MIndex.TheVariants.{NoM, M}
 use Rattle.format.specs.declared.Layers.{Layers}
 use Rattle.format.specs.declared.Tile.{Tile}
 use Rattle.format.specs.declared.TileMask.{TileMask}
-use Rattle.format.specs.declared.TileMask.TheVariants.{Unmasked}
 use Rattle.format.specs.declared.Dimension.{Dimension}
-use Rattle.format.specs.declared.TileAnswer.{TileAnswer}
-use Rattle.format.specs.declared.TileAnswer.TheVariants as TA
-use Rattle.format.specs.declared.DimensionAnswer.{DimensionAnswer}
-use Rattle.format.specs.declared.DimensionAnswer.TheVariants as DA
 use Rattle.format.specs.declared.Attachment.{Attachment}
-use Rattle.format.specs.declared.AttachmentAnswer.{AttachmentAnswer}
-use Rattle.format.specs.declared.AttachmentAnswer.TheVariants as AA
 
 -- ---- entry n of a scan: where it stands, the file that it names, and where its sub-block stands there
 
@@ -65,11 +55,11 @@ unfoldable pub attachment_span : List ℕ → ℕ → List ℕ → ℕ → Span
 attachment_span ds e bs q = span (attachment_place ds e bs q) (attachment_size bs q)
 
 -- its mask, under 1.02 none: a tile with no mask is valid everywhere
-unfoldable pub mask_of : List ℕ → ℕ → List ℕ → ℕ → Release → TileMask
+unfoldable pub mask_of : List ℕ → ℕ → List ℕ → ℕ → Release → Option TileMask
 mask_of ds e bs q r =
     cond (has_chunks ds e bs q r)
     (mask_from (attachment_size bs q) bs (attachment_place ds e bs q + attachment_size bs q) (attachment_place ds e bs q))
-    Unmasked
+    None
 
 -- ---- the tile record
 
@@ -78,18 +68,16 @@ unfoldable pub extent_at : List ℕ → ℕ → Extent
 extent_at bs d = record { start = signed32 (start bs d); size = size bs d; stored = stored bs d }
 
 -- M (77), if the entry has one
-unfoldable pub m_index_of : List ℕ → ℕ → MIndex
-m_index_of bs e = cond (any_below (dimension_count bs e) (has_letter bs e 77)) (M (signed32 (start bs (letter_place bs e 77)))) NoM
+unfoldable pub m_index_of : List ℕ → ℕ → Option ℤ
+m_index_of bs e = cond (any_below (dimension_count bs e) (has_letter bs e 77)) (Some (signed32 (start bs (letter_place bs e 77)))) None
 
-abbrev pub no_layers : Layers
-no_layers = record { letter = 0; start = pos 0; size = 0 }
+-- the dimension at d as layers
+abbrev pub layers_at : List ℕ → ℕ → Layers
+layers_at bs d = record { letter = letter bs d; start = signed32 (start bs d); size = size bs d }
 
--- the letter, the start and the size of its layers, all 0 where it has none
-unfoldable pub layers_of : List ℕ → ℕ → Layers
-layers_of bs e =
-    cond (is_layered bs e)
-    (record { letter = letter bs (layers_place bs e); start = signed32 (start bs (layers_place bs e)); size = size bs (layers_place bs e) })
-    no_layers
+-- the letter, the start and the size of its layers, if it has any
+unfoldable pub layers_of : List ℕ → ℕ → Option Layers
+layers_of bs e = cond (is_layered bs e) (Some (layers_at bs (layers_place bs e))) None
 
 -- of entry n, which stands at e of the file ds, and its sub-block at q of the file bs
 unfoldable pub tile_at : ℕ → List ℕ → ℕ → List ℕ → ℕ → Release → Tile
@@ -115,11 +103,6 @@ tile_at n ds e bs q r =
 unfoldable pub tile_record : Scan → ℕ → Tile
 tile_record sc n = tile_at n sc.file (tile_entry sc n) (tile_file sc n) (tile_position sc n) sc.release
 
--- the answer, by the verdict
-abbrev pub tile_if : Verdict → Tile → TileAnswer
-tile_if Is.Accepted t = TA.Found t
-tile_if (Is.Refused n p) t = TA.Refused n p
-
 -- ---- the dimension record
 
 unfoldable pub dimension_at : List ℕ → ℕ → Dimension
@@ -138,13 +121,9 @@ unfoldable pub dimension_verdict : Scan → ℕ → ℕ → Verdict
 dimension_verdict sc n k =
     first
     (checks sc ++
-    (row 24 0 (leb (tile_count sc.file) n) ∷
-    row 24 0 (leb (dimension_count sc.file (tile_entry sc n)) k) ∷
+    (row Fault.NoSuchNumber 0 (leb (tile_count sc.file) n) ∷
+    row Fault.NoSuchNumber 0 (leb (dimension_count sc.file (tile_entry sc n)) k) ∷
     []))
-
-abbrev pub dimension_if : Verdict → Dimension → DimensionAnswer
-dimension_if Is.Accepted d = DA.Found d
-dimension_if (Is.Refused n p) d = DA.Refused n p
 
 -- of dimension k of entry n
 unfoldable pub dimension_record : Scan → ℕ → ℕ → Dimension
@@ -163,10 +142,6 @@ attachment_at bs e = record { place = e; position = attachment_position bs e; «
 -- of attachment n of a scan
 unfoldable pub attachment_record : Scan → ℕ → Attachment
 attachment_record sc n = attachment_at sc.file (attachment_entry (attachment_directory_position sc.file) n)
-
-abbrev pub attachment_if : Verdict → Attachment → AttachmentAnswer
-attachment_if Is.Accepted a = AA.Found a
-attachment_if (Is.Refused n p) a = AA.Refused n p
 
 -- ---- the stretches of the views: the empty one where refused
 

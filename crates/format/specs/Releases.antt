@@ -1,16 +1,13 @@
 -- What the two releases have in common and where they differ (paper 02, Req 05), as claims about any bytes; `proofs/Releases` proves them.
-use Rattle.std.specs.Prelude.{ℕ, ◌≡◌, List, [], ◌∷◌, ◌++◌, cond, ◌||◌, eqb}
-use Rattle.format.specs.Checks.{Check, first, number_of}
+use Rattle.std.specs.Prelude.{ℕ, ◌≡◌, List, [], ◌∷◌, ◌++◌, cond, ◌||◌, eqb, None}
+use Rattle.format.specs.Checks.{Check, Verdict, Accepted, number, first, number_of}
 use Rattle.format.specs.Scan.{scan_of}
 use Rattle.format.specs.Rules.{checks, verdict, tile_verdict, attachment_verdict}
 use Rattle.format.specs.Records.{tile_record, dimension_verdict, dimension_record, attachment_record, tile_pixels, tile_metadata, tile_attachment}
 use Rattle.format.specs.Records.{attachment_data, common_xml, common_attachment}
 use Rattle.format.specs.declared.Release.{Release}
 use Rattle.format.specs.declared.Release.TheVariants.{R102, R12}
-use Rattle.format.specs.declared.Verdict.{Verdict}
-use Rattle.format.specs.declared.Verdict.TheVariants.{Accepted}
 use Rattle.format.specs.declared.Tile.{Tile}
-use Rattle.format.specs.declared.TileMask.TheVariants.{Unmasked}
 
 -- a verdict is neither refusal 17 nor 18, at any place
 pub record NoChunkRefused (v : Verdict) : Type 0 where
@@ -34,13 +31,13 @@ without_mask t =
       metadata = t.metadata;
       pixels = t.pixels;
       attachment = t.attachment;
-      mask = Unmasked;
+      mask = None;
     }
 
 -- rows but for those of 17 and 18, in their order
 unfoldable pub without_chunks : List Check → List Check
 without_chunks [] = []
-without_chunks (c ∷ cs) = cond (eqb c.number 17 || eqb c.number 18) (without_chunks cs) (c ∷ without_chunks cs)
+without_chunks (c ∷ cs) = cond (eqb (number c.fault) 17 || eqb (number c.fault) 18) (without_chunks cs) (c ∷ without_chunks cs)
 
 -- ---- both judge any bytes alike, number and place too, unless 1.2 gives 17 or 18: here release r against 1.2
 

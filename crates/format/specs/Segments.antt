@@ -4,6 +4,7 @@ use Rattle.std.specs.Prelude.{ℕ, zero, suc, ◌+◌, ◌%◌, ◌^◌, ◌≤�
 use Rattle.format.specs.Bytes.{u64_at, same_at, any_of, negative64}
 use Rattle.format.specs.Names.{name_file, name_directory, name_sub_block, name_metadata, name_attachment, name_attachment_directory, name_deleted}
 use Rattle.format.specs.Checks.{Check, row, first, if_accepted}
+use Rattle.format.specs.declared.Fault.TheVariants as Fault
 
 -- ---- the header: 32 bytes, name (16 bytes), AllocatedSize (Long at 16), UsedSize (Long at 24)
 
@@ -71,14 +72,14 @@ role_bad bs p =
 
 unfoldable pub segment_rows : List ℕ → ℕ → List Check
 segment_rows bs p =
-    row 2 p (name_bad bs p) ∷
-    row 3 p (sizes_bad bs p) ∷
-    row 5 p (role_bad bs p) ∷
+    row Fault.SegmentName p (name_bad bs p) ∷
+    row Fault.SegmentSizes p (sizes_bad bs p) ∷
+    row Fault.FirstSegment p (role_bad bs p) ∷
     []
 
 -- from p on, where n more segments are allowed: one past them is refused as 4
 unfoldable pub walk_rows : ℕ → List ℕ → ℕ → List Check
-walk_rows zero bs p = row 4 p (ltb p (length bs)) ∷ []
+walk_rows zero bs p = row Fault.SegmentCount p (ltb p (length bs)) ∷ []
 walk_rows (suc n) bs p = cond (ltb p (length bs)) (segment_rows bs p ++ walk_rows n bs (next_segment bs p)) []
 
 -- the positions of the segments from p on, at most n, up to the first that is refused
@@ -95,7 +96,7 @@ walked bs = cond (length_bad bs) [] (walked_from 8192 bs 0)
 
 -- refusals 1 to 5
 unfoldable pub segments_rows : List ℕ → List Check
-segments_rows bs = row 1 0 (length_bad bs) ∷ walk_rows 8192 bs 0
+segments_rows bs = row Fault.Length 0 (length_bad bs) ∷ walk_rows 8192 bs 0
 
 -- ---- naming a segment
 

@@ -19,8 +19,8 @@ use Rattle.format.specs.Rules.{verdict, AcceptedFile}
 use Rattle.format.specs.Answers.{VerdictAnswered}
 use Rattle.format.specs.Records.{tile_entry, tile_file, tile_position}
 use Rattle.format.specs.declared.Release.{Release}
-use Rattle.format.specs.declared.Verdict.{Verdict}
-use Rattle.format.specs.declared.Verdict.TheVariants.{Accepted}
+use Rattle.format.specs.Checks.{Verdict}
+use Rattle.format.specs.Checks.{Accepted}
 use Rattle.format.proofs.Below.{none}
 use Rattle.format.proofs.Firsts.{first-both, first-passed, passed, rows-each}
 use Rattle.format.proofs.SegmentLaws.{walked-room}
@@ -60,7 +60,7 @@ tiled sc h =
     let p = verdict-parts sc h in
     let l = located sc.file p.file in
     let d = directory_position sc.file in
-    let both = first-passed (directory_bad sc.file d) 10 d _ p.directory in
+    let both = first-passed (directory_bad sc.file d) _ _ p.directory in
     let r = ltb-false (room sc.file d) 128 (none _ both.0 0) in
     record {
       long = file-long sc.file p.segments;
@@ -87,7 +87,7 @@ described sc h some =
     let l = located sc.file p.file in
     let m = metadata_position sc.file in
     let rows = rw (ne_eqb m 0 some) at p.metadata in
-    let good = (first-passed (metadata_bad sc.file m) 10 m _ rows).0 in
+    let good = (first-passed (metadata_bad sc.file m) _ _ rows).0 in
     record {
       room_in = l.metadata some;
       fits = ltb-false (room sc.file m) (256 + xml_size sc.file m + xml_attachment_size sc.file m) (none _ good 2);
@@ -118,7 +118,7 @@ attached sc h some =
     let t = attachment_directory_position sc.file in
     let n = attachment_entry_count sc.file t in
     let rows = rw (ne_eqb t 0 some) at p.attachments in
-    let both = first-passed (attachment_directory_bad sc.file t) 10 t _ rows in
+    let both = first-passed (attachment_directory_bad sc.file t) _ _ rows in
     let within = entries-within sc.file t (l.attachments some) both.0 in
     record {
       count = directory-long t n _ within;

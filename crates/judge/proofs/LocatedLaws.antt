@@ -8,8 +8,8 @@ use Rattle.format.specs.Checks.{first}
 use Rattle.format.specs.Names.{name_directory, name_metadata, name_attachment_directory}
 use Rattle.format.specs.Segments.{RoomIn}
 use Rattle.format.specs.File.{directory_position, metadata_position, attachment_directory_position, names_none, names_none_but0, file_rows}
-use Rattle.format.specs.declared.Verdict.{Verdict}
-use Rattle.format.specs.declared.Verdict.TheVariants.{Accepted}
+use Rattle.format.specs.Checks.{Verdict}
+use Rattle.format.specs.Checks.{Accepted}
 use Rattle.format.proofs.Firsts.{passed}
 use Rattle.format.proofs.SegmentLaws.{walked-room}
 use Rattle.judge.specs.Located.{Located}

@@ -4,141 +4,90 @@
 ghost use Rattle.std.specs.Prelude.{◌≡◌, ◌++◌, ◌+◌, ◌≤◌, length};
 ghost use Rattle.format.specs.Scan.{scan_of};
 ghost use Rattle.format.specs.Checks.{first};
-ghost use Rattle.format.specs.File.{names_none, names_none_but0, file_rows};
+ghost use Rattle.format.specs.File.{names_none_but0, file_rows};
 ghost use Rattle.format.specs.Directory.{tile_count};
 ghost use Rattle.format.specs.Attachments.{attachment_count};
 ghost use Rattle.format.specs.Rules.{verdict, AcceptedFile};
 ghost use Rattle.format.specs.Answers.{VerdictAnswered};
-ghost use Rattle.segments.specs.Walk.{WalkTable};
+ghost use Rattle.segments.specs.Kinds.{name_of};
 ghost use Rattle.judge.specs.Located.{annex_rows, named_rows, Located};
 
-use format::{Release, Verdict};
+use format::{Fault, Refusal, Release, Verdict};
+use segments::kinds::Kind;
+use segments::walked::Walk;
 
 // ---- the file segment
 
-// Whether position q names no walked segment of that name.
-fn names_none(s: &[u8], table: &[u64; 8192], count: usize, q: u64, name: &[u8]) -> bool
-    requires walk_table { WalkTable s.now table.now count }
-    requires name_len { length name.now ≡ 16 }
-    ensures { result ≡ names_none s.now q name.now }
-{
-    !segments::walked_as(s, table, count, q, name)
-}
-
-// The same, where 0 means none.
-fn names_none_but_0(s: &[u8], table: &[u64; 8192], count: usize, q: u64, name: &[u8]) -> bool
-    requires walk_table { WalkTable s.now table.now count }
-    requires name_len { length name.now ≡ 16 }
-    ensures { result ≡ names_none_but0 s.now q name.now }
+// Whether position q names no walked segment of that kind, where 0 means none.
+fn names_none_but_0(walk: &Walk, q: u64, kind: Kind) -> bool
+    ensures { result ≡ names_none_but0 walk.now.file.now q (name_of kind) }
 {
     if q == 0 {
         return false;
     }
-    names_none(s, table, count, q, name)
+    !walk.names(q, kind)
 }
 
 // Refusals 6, 7, 8, and 9 in field order.
-fn judge_file(s: &[u8], table: &[u64; 8192], count: usize) -> Verdict
-    requires walk_table { WalkTable s.now table.now count }
-    requires in_bounds { 112 ≤ length s.now }
-    ensures { result ≡ first (file_rows s.now) }
+fn judge_file(walk: &Walk) -> Verdict
+    requires { 112 ≤ length walk.now.file.now }
+    ensures { result ≡ first (file_rows walk.now.file.now) }
 {
+    let s = walk.file;
     if segments::file::major(s) != 1 {
-        return Verdict::Refused {
-            number: 6,
+        return Err(Refusal {
+            fault: Fault::Major,
             place: 0,
-        };
+        });
     }
     if segments::file::file_part(s) != 0 {
-        return Verdict::Refused {
-            number: 7,
+        return Err(Refusal {
+            fault: Fault::FilePart,
             place: 0,
-        };
+        });
     }
     if segments::file::update_pending(s) != 0 {
-        return Verdict::Refused {
-            number: 8,
+        return Err(Refusal {
+            fault: Fault::UpdatePending,
             place: 0,
-        };
+        });
     }
-    if names_none(
-        s,
-        table,
-        count,
-        segments::file::directory_position(s),
-        b"ZISRAWDIRECTORY\0",
-    ) {
-        return Verdict::Refused {
-            number: 9,
+    if !walk.names(segments::file::directory_position(s), Kind::Directory) {
+        return Err(Refusal {
+            fault: Fault::Positions,
             place: 84,
-        };
+        });
     }
-    if names_none_but_0(
-        s,
-        table,
-        count,
-        segments::file::metadata_position(s),
-        b"ZISRAWMETADATA\0\0",
-    ) {
-        return Verdict::Refused {
-            number: 9,
+    if names_none_but_0(walk, segments::file::metadata_position(s), Kind::Metadata) {
+        return Err(Refusal {
+            fault: Fault::Positions,
             place: 92,
-        };
+        });
     }
     if names_none_but_0(
-        s,
-        table,
-        count,
+        walk,
         segments::file::attachment_directory_position(s),
-        b"ZISRAWATTDIR\0\0\0\0",
+        Kind::AttachmentDirectory,
     ) {
-        return Verdict::Refused {
-            number: 9,
+        return Err(Refusal {
+            fault: Fault::Positions,
             place: 104,
-        };
+        });
     }
-    Verdict::Accepted
+    Ok(())
 }
 
 // ---- the whole file
 
-// The metadata segment and the attachment directory.
-fn judge_annexes(s: &[u8], table: &[u64; 8192], count: usize) -> Verdict
-    requires walk_table { WalkTable s.now table.now count }
-    requires in_bounds { (112 ≤ length s.now) × Located s.now }
-    ensures { result ≡ first (annex_rows s.now) }
+// The file segment and what it names: the sub-block directory, the metadata segment, the attachment directory.
+fn judge_walked(walk: &Walk, release: Release) -> Verdict
+    requires { 112 ≤ length walk.now.file.now }
+    ensures { result ≡ first (file_rows walk.now.file.now ++ named_rows (scan_of walk.now.file.now release)) }
 {
-    let v = attachments::judge_metadata(s);
-    match v {
-        Verdict::Refused { number, place } => Verdict::Refused { number, place },
-        Verdict::Accepted => attachments::judge_attachments(s, table, count),
-    }
-}
-
-// What the file segment names.
-fn judge_named(s: &[u8], release: Release, table: &[u64; 8192], count: usize) -> Verdict
-    requires walk_table { WalkTable s.now table.now count }
-    requires in_bounds { (112 ≤ length s.now) × Located s.now }
-    ensures { result ≡ first (named_rows (scan_of s.now release)) }
-{
-    let v = directory::judge_directory(s, release, table, count);
-    match v {
-        Verdict::Refused { number, place } => Verdict::Refused { number, place },
-        Verdict::Accepted => judge_annexes(s, table, count),
-    }
-}
-
-// The file segment and what it names.
-fn judge_walked(s: &[u8], release: Release, table: &[u64; 8192], count: usize) -> Verdict
-    requires walk_table { WalkTable s.now table.now count }
-    requires in_bounds { 112 ≤ length s.now }
-    ensures { result ≡ first (file_rows s.now ++ named_rows (scan_of s.now release)) }
-{
-    let v = judge_file(s, table, count);
-    match v {
-        Verdict::Refused { number, place } => Verdict::Refused { number, place },
-        Verdict::Accepted => judge_named(s, release, table, count),
-    }
+    judge_file(walk)?;
+    directory::judge_directory(walk, release)?;
+    attachments::judge_metadata(walk.file)?;
+    attachments::judge_attachments(walk)
 }
 
 // The verdict on any bytes under a release.
@@ -146,15 +95,12 @@ pub fn judge(s: &[u8], release: Release) -> Verdict
     ensures { VerdictAnswered (verdict (scan_of s.now release)) result }
 {
     let mut table = [0u64; 8192];
-    let w = segments::walk(s, &mut table);
-    let v = w.verdict;
-    match v {
-        Verdict::Refused { number, place } => Verdict::Refused { number, place },
-        Verdict::Accepted => {
-            let count = w.count as usize;
-            judge_walked(s, release, &table, count)
-        }
-    }
+    let count = segments::walk(s, &mut table)?;
+    let walk = Walk {
+        file: s,
+        positions: &table[..count],
+    };
+    judge_walked(&walk, release)
 }
 
 // ---- how much a file has that is accepted, under whichever release

@@ -1,3 +1,3 @@
--- Laws of a key that goes in among others, and of the loop that puts it there.
+-- Laws of a key that goes in among others.
 pub mod KeyLaws
 pub mod Inserting

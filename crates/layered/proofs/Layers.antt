@@ -11,7 +11,7 @@ use Rattle.format.specs.Choice.{asked_start, asked_layer}
 use Rattle.format.specs.Scan.{Scan}
 use Rattle.format.specs.Rules.{checks, verdict, tile_verdict}
 use Rattle.format.specs.Directory.{tile_count}
-use Rattle.format.specs.declared.Verdict.TheVariants.{Accepted}
+use Rattle.format.specs.Checks.{Accepted}
 use Rattle.format.specs.Entry.{dimensions_bad, dimension_count}
 use Rattle.format.proofs.Firsts.{first-append}
 use Rattle.format.specs.SubBlock.{attachment_place}

@@ -1,14 +1,14 @@
 -- What is claimed of the tiles of an accepted scan (paper 02, Req 10): the record, the view, which tiles a question's starts select, and the bytes of the layer
 -- that they ask for; and that of a tile without layers view, selection and bytes are as paper 01 has them. `proofs/Layers` proves it.
-use Rattle.std.specs.Prelude.{ℕ, ◌+◌, ◌-◌, ◌*◌, ◌^◌, ◌≤◌, ◌<◌, ◌≡◌, ◌↔◌, Bool, true, not, ◌&&◌, ◌||◌, get_or}
+use Rattle.std.specs.Prelude.{ℕ, ◌+◌, ◌-◌, ◌*◌, ◌^◌, ◌≤◌, ◌<◌, ◌≡◌, ◌↔◌, Bool, true, not, ◌&&◌, ◌||◌, Some, None, get_or}
 use Rattle.format.specs.Bytes.{biased, signed32}
 use Rattle.format.specs.Scan.{Scan}
 use Rattle.format.specs.Choice.{Choice, asked_start}
 use Rattle.format.specs.Entry.{dimension_count, pixel_bytes}
 use Rattle.format.specs.Directory.{tile_count}
 use Rattle.format.specs.Rules.{verdict}
-use Rattle.format.specs.Records.{tile_entry, tile_file, tile_record, tile_pixels, no_layers}
-use Rattle.format.specs.declared.Verdict.TheVariants.{Accepted}
+use Rattle.format.specs.Records.{tile_entry, tile_file, tile_record, tile_pixels}
+use Rattle.format.specs.Checks.{Accepted}
 use Rattle.selection.specs.Select.{chooses}
 use Rattle.plane.specs.Tiles.{covers}
 use Rattle.tiles.specs.FileTile.{rank_of, rectangle, unmasked, file_tile}
@@ -23,15 +23,15 @@ abbrev pub LayersNone : Scan → ℕ → Type 0
 LayersNone sc n = LacksLayers sc.file (tile_entry sc n)
 
 pub record TileLayers (sc : Scan) (n : ℕ) : Type 0 where
-  -- the letter, start and size of the dimension that has layers, all 0 where none has
-  pub record_none : LayersNone sc n → (tile_record sc n).layers ≡ no_layers
+  -- the letter, start and size of the dimension that has layers, if one has
+  pub record_none : LayersNone sc n → (tile_record sc n).layers ≡ None
   pub record_some : (k : ℕ) → LayersAt sc n k
       → (tile_record sc n).layers
-      ≡ record {
+      ≡ Some (record {
         letter = letter_of sc.file (tile_entry sc n) k;
         start = signed32 (start_of sc.file (tile_entry sc n) k);
         size = size_of sc.file (tile_entry sc n) k;
-      }
+      })
   -- the view has the bytes of all layers, pyramid tiles too, and the attachment stands right behind it
   pub view_is : tile_pixels sc n ≡ (tile_record sc n).pixels
   pub view_one : LayersNone sc n

@@ -9,6 +9,7 @@ fn main(rt: HostRuntime) -> io::Result<()> {
     let mut buffer = [0u8; 65568];
     let mut input = rt.stdin();
     let mut n: usize = 0;
+    // a while loop: each read says how much it got, and read_to_end would take heap
     while n < buffer.len() {
         let got = input.read(&mut buffer[n..])?;
         if got == 0 {
@@ -16,8 +17,6 @@ fn main(rt: HostRuntime) -> io::Result<()> {
         }
         n += got;
     }
-    let answer = listing::list(&buffer[..n], Release::R12);
-    let bytes = answer.bytes;
-    let k = bytes.len().min(answer.length);
-    rt.stdout().write_all(&bytes[..k])
+    let text = listing::list(&buffer[..n], Release::R12);
+    rt.stdout().write_all(text.as_bytes())
 }

@@ -1,4 +1,3 @@
 -- Laws of the box, of the summary and of the listing.
 pub mod Boxes
 pub mod Texts
-pub mod Summaries

@@ -1,82 +1,66 @@
--- What the code carries on the way to the summary and the listing: the figures, with the box's corners as they are compared.
-use Rattle.std.specs.Prelude.{ℕ, ◌^◌, ◌<◌, min, max, ◌≡◌, List, ◌++◌, true, cond, length}
+-- What the code carries on the way to the summary and the listing: the box's corners as they are compared, and the text of a summary.
+use Rattle.std.specs.Prelude.{ℕ, min, max, List, ◌∷◌, ◌++◌, cond, Option, Some, None}
 use Rattle.format.specs.Bytes.{any_below}
-use Rattle.format.specs.Segments.{walked}
 use Rattle.format.specs.Entry.{letter_place, is_pyramid}
-use Rattle.format.specs.Directory.{tile_count, entry_place}
-use Rattle.format.specs.Attachments.{attachment_count}
-use Rattle.text.specs.Text.{decimal, line, text_of, Clean}
-use Rattle.text.specs.declared.Text.{Text}
-use Rattle.listing.specs.Summary.{plain, least_of, greatest_of, near_edge, far_edge, bounds_of}
-use Rattle.listing.specs.Listing.{name_bytes, name_segments, name_tiles, name_attachments, name_box, box_text}
-use Rattle.listing.specs.declared.Bounds.{Bounds}
+use Rattle.format.specs.Directory.{entry_place}
+use Rattle.text.specs.Text.{decimal, signed_text, line}
+use Rattle.listing.specs.Summary.{plain, least_of, greatest_of, near_edge, far_edge, tile_box}
+use Rattle.listing.specs.Listing.{name_bytes, name_segments, name_tiles, name_attachments, name_box, word_none}
+use Rattle.listing.specs.declared.TileBox.{TileBox}
 use Rattle.listing.specs.declared.Corners.{Corners}
-use Rattle.listing.specs.declared.Figures.{Figures}
 use Rattle.listing.specs.declared.Summary.{Summary}
 
 -- ---- the corners
 
 -- the box over the tiles below n
-unfoldable pub corners_below : List ℕ → ℕ → Corners
+unfoldable pub corners_below : List ℕ → ℕ → Option Corners
 corners_below bs n =
-    record {
-      some = any_below n (plain bs);
+    cond (any_below n (plain bs))
+    (Some
+    (record {
       left = least_of n (plain bs) (λ k. near_edge bs (letter_place bs (entry_place bs k) 88));
       top = least_of n (plain bs) (λ k. near_edge bs (letter_place bs (entry_place bs k) 89));
       right = greatest_of n (plain bs) (λ k. far_edge bs (letter_place bs (entry_place bs k) 88));
       bottom = greatest_of n (plain bs) (λ k. far_edge bs (letter_place bs (entry_place bs k) 89));
+    }))
+    None
+
+-- the corners of the tile of the entry at e
+unfoldable pub tile_corners : List ℕ → ℕ → Corners
+tile_corners bs e =
+    record {
+      left = near_edge bs (letter_place bs e 88);
+      top = near_edge bs (letter_place bs e 89);
+      right = far_edge bs (letter_place bs e 88);
+      bottom = far_edge bs (letter_place bs e 89);
     }
 
--- the box that takes in the entry at e too, unless it is a pyramid tile's
-unfoldable pub with_tile : List ℕ → ℕ → Corners → Corners
-with_tile bs e c =
-    cond (is_pyramid bs e) c
-    (record {
-      some = true;
-      left = min (near_edge bs (letter_place bs e 88)) c.left;
-      top = min (near_edge bs (letter_place bs e 89)) c.top;
-      right = max (far_edge bs (letter_place bs e 88)) c.right;
-      bottom = max (far_edge bs (letter_place bs e 89)) c.bottom;
-    })
+-- the corners of the least box that holds both
+abbrev pub joined : Corners → Corners → Corners
+joined a b = record { left = min a.left b.left; top = min a.top b.top; right = max a.right b.right; bottom = max a.bottom b.bottom }
 
--- where there is a tile, each corner less 2 ^ 31 is an Int
-pub record Held (c : Corners) : Type 0 where
-  pub left_fits : c.some ≡ true → c.left < 2 ^ 32
-  pub top_fits : c.some ≡ true → c.top < 2 ^ 32
-  pub right_fits : c.right < 2 ^ 32
-  pub bottom_fits : c.bottom < 2 ^ 32
+abbrev pub joined_with : Corners → Option Corners → Corners
+joined_with a None = a
+joined_with a (Some b) = joined a b
+
+-- the box that takes in the entry at e too, unless it is a pyramid tile's
+unfoldable pub with_tile : List ℕ → ℕ → Option Corners → Option Corners
+with_tile bs e c = cond (is_pyramid bs e) c (Some (joined_with (tile_corners bs e) c))
 
 -- ---- the figures
 
-unfoldable pub figures_of : List ℕ → Figures
-figures_of bs =
-    record {
-      bytes = length bs;
-      segments = length (walked bs);
-      tiles = tile_count bs;
-      attachments = attachment_count bs;
-      corners = corners_below bs (tile_count bs);
-    }
+abbrev pub bounds_by : Option Corners → Option TileBox
+bounds_by None = None
+bounds_by (Some c) = Some (tile_box c.left c.top c.right c.bottom)
 
-abbrev pub bounds_by : Corners → Bounds
-bounds_by c = bounds_of c.some c.left c.top c.right c.bottom
+abbrev pub box_by : Option TileBox → List ℕ
+box_by None = word_none
+box_by (Some b) = signed_text b.left ++ (44 ∷ signed_text b.top) ++ (44 ∷ signed_text b.right) ++ (44 ∷ signed_text b.bottom)
 
-abbrev pub box_by : Corners → List ℕ
-box_by c = box_text c.some c.left c.top c.right c.bottom
-
-unfoldable pub summary_by : Figures → Summary
-summary_by f =
-    record { bytes = f.bytes; segments = f.segments; tiles = f.tiles; attachments = f.attachments; bounds = bounds_by f.corners }
-
-unfoldable pub text_by : Figures → List ℕ
-text_by f =
-    line name_bytes (decimal f.bytes) ++
-    line name_segments (decimal f.segments) ++
-    line name_tiles (decimal f.tiles) ++
-    line name_attachments (decimal f.attachments) ++
-    line name_box (box_by f.corners)
-
--- the text t says x
-pub record Says (t : Text) (x : List ℕ) : Type 0 where
-  pub clean : Clean t
-  pub text : text_of t ≡ x
+unfoldable pub text_by : Summary → List ℕ
+text_by s =
+    line name_bytes (decimal s.bytes) ++
+    line name_segments (decimal s.segments) ++
+    line name_tiles (decimal s.tiles) ++
+    line name_attachments (decimal s.attachments) ++
+    line name_box (box_by s.bounds)

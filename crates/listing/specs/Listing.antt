@@ -1,5 +1,5 @@
 -- The listing of a file: lines of plain ASCII text, each ended by a newline (10). A text is the list of its bytes.
-use Rattle.std.specs.Prelude.{ℕ, List, [], ◌∷◌, ◌++◌, Bool, cond, length, ltb}
+use Rattle.std.specs.Prelude.{ℕ, List, [], ◌∷◌, ◌++◌, Bool, cond, Ok, Err, length, ltb}
 use Rattle.format.specs.Scan.{scan_of}
 use Rattle.format.specs.Bytes.{any_below}
 use Rattle.format.specs.Segments.{walked}
@@ -7,8 +7,7 @@ use Rattle.format.specs.Directory.{tile_count}
 use Rattle.format.specs.Attachments.{attachment_count}
 use Rattle.format.specs.Rules.{verdict}
 use Rattle.format.specs.declared.Release.{Release}
-use Rattle.format.specs.declared.Verdict.{Verdict}
-use Rattle.format.specs.declared.Verdict.TheVariants.{Accepted, Refused}
+use Rattle.format.specs.Checks.{Verdict, number}
 use Rattle.text.specs.Text.{decimal, signed_decimal, line}
 use Rattle.listing.specs.Summary.{plain, left, top, right, bottom}
 
@@ -49,11 +48,11 @@ name_place = 112 ∷ 108 ∷ 97 ∷ 99 ∷ 101 ∷ 61 ∷ []
 -- ---- the lines
 
 -- left,top,right,bottom (a comma is 44), or none
+abbrev pub corners_text : ℕ → ℕ → ℕ → ℕ → List ℕ
+corners_text l t r b = signed_decimal l ++ (44 ∷ signed_decimal t) ++ (44 ∷ signed_decimal r) ++ (44 ∷ signed_decimal b)
+
 unfoldable pub box_text : Bool → ℕ → ℕ → ℕ → ℕ → List ℕ
-box_text some l t r b =
-    cond some
-    (signed_decimal l ++ (44 ∷ signed_decimal t) ++ (44 ∷ signed_decimal r) ++ (44 ∷ signed_decimal b))
-    word_none
+box_text some l t r b = cond some (corners_text l t r b) word_none
 
 -- the lines of an accepted file, in this order
 unfoldable pub figures_text : List ℕ → List ℕ
@@ -71,8 +70,8 @@ refusal_text n p = line name_refused (decimal n) ++ line name_place (decimal p)
 -- ---- the listing, under a release
 
 abbrev pub text_if : Verdict → List ℕ → List ℕ
-text_if Accepted x = x
-text_if (Refused n p) x = refusal_text n p
+text_if (Ok _) x = x
+text_if (Err e) x = refusal_text (number e.fault) e.place
 
 -- refusal 30, input over 65,536 bytes, goes before all
 unfoldable pub listing_of : List ℕ → Release → List ℕ

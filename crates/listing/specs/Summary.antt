@@ -1,19 +1,16 @@
 -- The summary of a file: its length, how many segments, tiles and attachments it has, and the box of its tiles.
 -- Plane coordinates are kept plus 2 ^ 31, so that they are compared as numbers that are not negative.
-use Rattle.std.specs.Prelude.{ℕ, zero, suc, ◌+◌, min, max, ◌≡◌, List, Bool, cond, not, length, ℤ}
+use Rattle.std.specs.Prelude.{ℕ, zero, suc, ◌+◌, min, max, List, Bool, cond, not, length, ℤ, Option, Some, None, Result}
 use Rattle.format.specs.Bytes.{any_below, signed32, biased}
-use Rattle.format.specs.Checks.{number_of, place_of, if_accepted}
+use Rattle.format.specs.Checks.{Verdict}
+use Rattle.format.specs.Answers.{ValueAnswered}
 use Rattle.format.specs.Segments.{walked}
 use Rattle.format.specs.Entry.{start, size, letter_place, is_pyramid}
 use Rattle.format.specs.Directory.{tile_count, entry_place}
 use Rattle.format.specs.Attachments.{attachment_count}
-use Rattle.format.specs.declared.Verdict.{Verdict}
-use Rattle.format.specs.declared.Verdict.TheVariants as Is
-use Rattle.listing.specs.declared.Bounds.{Bounds}
-use Rattle.listing.specs.declared.Bounds.TheVariants.{Nothing, Box}
+use Rattle.format.specs.declared.Refusal.{Refusal}
+use Rattle.listing.specs.declared.TileBox.{TileBox}
 use Rattle.listing.specs.declared.Summary.{Summary}
-use Rattle.listing.specs.declared.SummaryAnswer.{SummaryAnswer}
-use Rattle.listing.specs.declared.SummaryAnswer.TheVariants as SummaryIs
 
 -- ---- the tiles that aren't pyramid tiles
 
@@ -57,9 +54,13 @@ bottom bs = greatest_of (tile_count bs) (plain bs) (λ k. far_edge bs (letter_pl
 abbrev pub unshifted : ℕ → ℤ
 unshifted x = signed32 (biased x)
 
--- the box with these corners, where there is a tile in it
-unfoldable pub bounds_of : Bool → ℕ → ℕ → ℕ → ℕ → Bounds
-bounds_of some l t r b = cond some (Box (unshifted l) (unshifted t) (unshifted r) (unshifted b)) Nothing
+-- the box with these corners
+abbrev pub tile_box : ℕ → ℕ → ℕ → ℕ → TileBox
+tile_box l t r b = record { left = unshifted l; top = unshifted t; right = unshifted r; bottom = unshifted b }
+
+-- where there is a tile in it
+unfoldable pub bounds_of : Bool → ℕ → ℕ → ℕ → ℕ → Option TileBox
+bounds_of some l t r b = cond some (Some (tile_box l t r b)) None
 
 -- ---- the summary
 
@@ -75,24 +76,9 @@ summary_of bs =
 
 -- ---- the answer, by the verdict: its values are all zero where it is refused
 
-abbrev pub summary_if : Verdict → Summary → SummaryAnswer
-summary_if Is.Accepted s = SummaryIs.Found s
-summary_if (Is.Refused n p) s = SummaryIs.Refused n p
-
 abbrev pub no_summary : Summary
-no_summary = record { bytes = 0; segments = 0; tiles = 0; attachments = 0; bounds = Nothing }
-
-abbrev pub summary_verdict : SummaryAnswer → Verdict
-summary_verdict (SummaryIs.Found s) = Is.Accepted
-summary_verdict (SummaryIs.Refused n p) = Is.Refused n p
-
-abbrev pub summary_in : SummaryAnswer → Summary
-summary_in (SummaryIs.Found s) = s
-summary_in (SummaryIs.Refused n p) = no_summary
+no_summary = record { bytes = 0; segments = 0; tiles = 0; attachments = 0; bounds = None }
 
 -- by the verdict v the summary s is answered as r
-pub record SummaryAnswered (v : Verdict) (s : Summary) (r : SummaryAnswer) : Type 0 where
-  pub answer_is : r ≡ summary_if v s
-  pub number_is : number_of (summary_verdict r) ≡ number_of v
-  pub place_is : place_of (summary_verdict r) ≡ place_of v
-  pub summary_is : summary_in r ≡ if_accepted v s no_summary
+abbrev pub SummaryAnswered : Verdict → Summary → Result Summary Refusal → Type 0
+SummaryAnswered v s r = ValueAnswered no_summary v s r

@@ -1,10 +1,9 @@
--- Laws of stretches of the metadata, of items by their places, and of the open tags.
-pub mod Classes
-pub mod Stretching
-pub mod Comparing
-pub mod Tagging
-pub mod Skipping
+-- Laws of what bytes begin with.
+pub mod Beginning
+pub mod Splitting
 pub mod Naming
+pub mod Quoting
+pub mod Tags
 pub mod Marking
-pub mod Opening
+pub mod Sections
 pub mod Walking

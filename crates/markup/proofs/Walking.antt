@@ -1,25 +1,25 @@
 -- Laws of the pass over the items: what is left of the metadata decides, with the open tags, the stage and whether there was a section.
-use Prim.Native.Nat.{ℕ, suc, ◌+◌, ◌-◌, ◌≤◌, ◌<◌}
+use Prim.Native.Nat.{ℕ, ◌≤◌, ◌<◌}
 use mathlib.Core.Path.{◌≡◌, refl, sym, ◌∙◌}
 use mathlib.Core.List.{List, [], ◌∷◌}
 use mathlib.Core.Bool.{Bool, true, false, not, ◌||◌}
 use mathlib.Core.Option.{Option, none, some, Option-elim}
-use native.Mathlib.Numerals.{add-one}
+use mathlib.Core.Logic.{⊎_elim, ◌⊎◌}
 use native.Mathlib.Omega.{arith}
-use borrow.Author.Tests.{lt-ltb, le-ltb, not-true, not-false}
-use lib.ListN.{length, get_or, set, replicate}
+use borrow.Author.Tests.{lt-ltb, le-ltb, eqb-true, eqb-false, not-true, not-false}
+use lib.ListN.{length}
 use lib.Dec.{eqb}
 use Rattle.format.specs.Bytes.{part_of}
 use Rattle.format.specs.Markup.{Item, start, close, empty, text, skipped, item_at, one_more, reads_as}
 use Rattle.format.specs.Container.{same_bytes, start_stage, text_stage, ends_well, declares, is_container}
-use Rattle.format.proofs.Reading.{reads-step, reads_nothing}
-use Rattle.markup.specs.Stretches.{stretch}
-use Rattle.markup.specs.Tokens.{Stands, found_by}
-use Rattle.markup.specs.Open.{open_names, Lie}
-use Rattle.markup.specs.declared.Token.{Token}
-use Rattle.markup.specs.declared.Token.TheVariants.{Broken, Start, Close, Empty, Text, Skipped}
-use Rattle.markup.proofs.Stretching.{stretch-none, stretch-one}
-use Rattle.markup.proofs.Opening.{names-count, lie-none, opened-names, lie-opened, lie-closed}
+use Rattle.format.proofs.Reading.{reads-step, reads_nothing, shorter}
+use Rattle.markup.specs.Items.{meant}
+use Rattle.markup.specs.declared.items.Item.{Item as Token}
+use Rattle.markup.specs.declared.items.Item.TheVariants.{Start, Close, Empty, Text, Skipped}
+use Rattle.markup.proofs.Sections.{same-pointwise}
+use Rattle.std.specs.Cmp.Lexicographic.{pointwise}
+use Rattle.std.proofs.Math.Dec.{eqb-suc-zero}
+use denote.Ref.{Bor}
 
 -- ---- what is left
 
@@ -93,123 +93,76 @@ module _ (found : Bool) (stage : ℕ) (name rest : List ℕ) where
   unfolding ends_well
   with_none = never (reads_as rest) _ (λ items. refl)
 
--- ---- the loop
+-- ---- a step of the pass: b is the answer that is sought
 
-pub record Walking (bs : List ℕ) (p n end : ℕ) (places lengths : List ℕ) (depth stage : ℕ) (found : Bool) (at : ℕ) : Type 0 where
-  pub to : at ≤ end
-  pub fits : end ≤ length bs
-  pub lie : Lie bs places lengths depth
-  pub same : is_container bs p n ≡ decides found stage (open_names bs places lengths depth) (stretch bs at end)
+pub walk-start : (bs rest : List ℕ) (p n : ℕ) → rest ≡ part_of bs p n → is_container bs p n ≡ decides false 0 [] rest
+unfolding is_container declares decides
+walk-start bs rest p n e = rw e
 
-pub walking_start : (bs : List ℕ) (p n : ℕ) → p + n ≤ length bs → Walking bs p n (p + n) (replicate 64 0) (replicate 64 0) 0 0 false p
-unfolding is_container declares decides stretch
-walking_start bs p n h = record {
-  to = omega arith;
-  fits = h;
-  lie = lie-none bs;
-  same = let e : p + n - p ≡ n = omega arith in rw e;
-}
+module _ (b found : Bool) (stage : ℕ) (names : List (List ℕ)) (rest : List ℕ) (w : b ≡ decides found stage names rest) where
+  -- no item
+  pub broken : false ≡ eqb (length rest) 0 → none ≡ item_at rest → false ≡ b
+  broken =
+      elim rest as (λ r. b ≡ decides found stage names r → false ≡ eqb (length r) 0 → none ≡ item_at r → false ≡ b)
+      [ [] ↦ λ w h e. cc | x ∷ xs ↦ λ w h e. sym (w ∙ decides-broken found stage names x xs (sym e)) ] w
 
--- the token that stands at the loop's place, before its end
-pub record Told (bs : List ℕ) (p n end : ℕ) (places lengths : List ℕ) (depth stage : ℕ) (found : Bool) (at : ℕ) (t : Token) : Type 0 where
-  pub walking : Walking bs p n end places lengths depth stage found at
-  pub less : at < end
-  pub stands : Stands bs at end (item_at (stretch bs at end)) t
+  -- an item, and what stands behind it
+  module _ (item : Token) (behind : List ℕ) (h : false ≡ eqb (length rest) 0) (e : some (meant item, behind) ≡ item_at rest) where
+    left : b ≡ With found stage names behind (meant item)
+    left =
+        elim rest as (λ r. b ≡ decides found stage names r → false ≡ eqb (length r) 0 → some (meant item, behind) ≡ item_at r → b ≡ With found stage names behind (meant item))
+        [ [] ↦ λ w h e. cc | x ∷ xs ↦ λ w h e. w ∙ decides-item found stage names x xs (meant item) behind (sym e) ] w h e
 
-module _ {bs : List ℕ} {p n end : ℕ} {places lengths : List ℕ} {depth stage : ℕ} {found : Bool} {at : ℕ} where
-  -- it is told of the variant that the token is
-  pub told : {t u : Token} → Walking bs p n end places lengths depth stage found at → at < end → Stands bs at end (item_at (stretch bs at end)) t → t ≡ u
-      → Told bs p n end places lengths depth stage found at u
-  told w l s e = record { walking = w; less = l; stands = rw (← e) s }
+    pub less : length behind < length rest
+    less =
+        elim rest as (λ r. false ≡ eqb (length r) 0 → some (meant item, behind) ≡ item_at r → length behind < length r)
+        [ [] ↦ λ h e. cc | x ∷ xs ↦ λ h e. shorter x xs (meant item, behind) (sym e) ] h e
 
-  pub broken : Told bs p n end places lengths depth stage found at Broken → false ≡ is_container bs p n
-  broken r =
-      let e = stretch-one bs at end r.less r.walking.fits in
-      sym (r.walking.same ∙ rw e (decides-broken found stage _ _ _ (rw (← e) r.stands.says)))
+    module _ (name : Bor (List ℕ)) where
+      pub too_many : item ≡ Start name → true ≡ eqb (length names) 64 → false ≡ b
+      too_many i m = sym (left ∙ rw i (with-many found stage names behind name.now (omega (arith, eqb-true (length names) 64 (sym m)))))
 
-  -- what is left is an item and the rest
-  item : {t : Token} (i : Item) (rest : List ℕ) → Told bs p n end places lengths depth stage found at t → found_by bs end t ≡ some (i, rest)
-      → is_container bs p n ≡ With found stage (open_names bs places lengths depth) rest i
-  item i rest r f =
-      let e = stretch-one bs at end r.less r.walking.fits in
-      r.walking.same ∙ rw e (decides-item found stage _ _ _ i rest (rw (← e) (r.stands.says ∙ f)))
+      pub walk-opened : item ≡ Start name → false ≡ eqb (length names) 64 → length names ≤ 64 → (names' : List (List ℕ)) → names' ≡ name.now ∷ names
+          → (stage' : ℕ) → stage' ≡ start_stage names' → b ≡ decides found stage' names' behind
+      walk-opened i m f names' n stage' s =
+          let few : length names < 64 = omega (arith, eqb-false (length names) 64 (sym m)) in
+          left ∙ rw (i, s, n) (with-start found stage names behind name.now few)
 
-  -- a start tag
-  module _ {from size next : ℕ} (r : Told bs p n end places lengths depth stage found at (Start from size next)) where
-    pub too_many : depth ≡ 64 → false ≡ is_container bs p n
-    too_many h = sym (item _ _ r refl ∙ with-many found stage _ _ _ (rw (names-count bs places lengths depth) (omega (arith, h))))
+      pub none_open : item ≡ Close name → names ≡ [] → false ≡ b
+      none_open i n = sym (left ∙ rw (i, n) (with_none found stage name.now behind))
 
-    module _ (h : depth ≡ 64 → ⊥) where
-      room : depth < 64
-      room = omega (arith, r.walking.lie.few)
+      module _ (last : List ℕ) (outer : List (List ℕ)) (i : item ≡ Close name) (n : names ≡ last ∷ outer) where
+        pub other_name : true ≡ not (pointwise eqb name.now last) → false ≡ b
+        other_name d = sym (left ∙ rw (i, n) (with-other found stage name.now behind last outer (sym (same-pointwise name.now last) ∙ not-true _ (sym d))))
 
-      pub lie-start : Lie bs (set places depth from) (set lengths depth size) (depth + 1)
-      lie-start = rw add-one (lie-opened bs places lengths depth from size r.walking.lie room (omega (arith, r.stands.ahead.0, r.walking.fits)))
+        pub walk-closed : false ≡ not (pointwise eqb name.now last) → (found' : Bool) → found' ≡ (found || eqb stage 2) → b ≡ decides found' 0 outer behind
+        walk-closed d found' f =
+            left ∙ rw (i, n, f) (with-closed found stage name.now behind last outer (sym (same-pointwise name.now last) ∙ not-false _ (sym d)))
 
-      pub walking-opened : {stage' : ℕ} → stage' ≡ start_stage (open_names bs (set places depth from) (set lengths depth size) (depth + 1))
-          → Walking bs p n end (set places depth from) (set lengths depth size) (depth + 1) stage' found next
-      walking-opened e =
-          let o = opened-names bs places lengths depth from size r.walking.lie room in
-          let c = with-start found stage (open_names bs places lengths depth) (stretch bs next end) _ (rw (names-count bs places lengths depth) room) in
-          record { to = r.stands.ahead.2; fits = r.walking.fits; lie = lie-start; same = item _ _ r refl ∙ c ∙ rw (e, add-one, o) }
+      pub walk-text : item ≡ Text name → (stage' : ℕ) → stage' ≡ text_stage stage name.now → b ≡ decides found stage' names behind
+      walk-text i stage' s = left ∙ rw (i, s) (with-text found stage names behind name.now)
 
-  -- an end tag
-  module _ {from size next : ℕ} (r : Told bs p n end places lengths depth stage found at (Close from size next)) where
-    pub none_open : depth ≡ 0 → false ≡ is_container bs p n
-    none_open h = sym (item _ _ r refl ∙ rw h (with_none found stage _ _))
-
-    -- its name is compared with that of the k-th open tag, which is the innermost
-    pub names-lie : (depth ≡ 0 → ⊥)
-        → (from + size ≤ length bs) × (get_or places (depth - 1) 0 + get_or lengths (depth - 1) 0 ≤ length bs)
-    names-lie h = (omega (arith, r.stands.ahead.0, r.walking.fits), r.walking.lie.each (depth - 1) (omega arith))
-
-    shut : (k : ℕ) → depth ≡ suc k → same_bytes (part_of bs from size) (part_of bs (get_or places k 0) (get_or lengths k 0)) ≡ true
-        → is_container bs p n ≡ decides (found || eqb stage 2) 0 (open_names bs places lengths k) (stretch bs next end)
-    shut k d x = item _ _ r refl ∙ rw d (with-closed found stage _ _ _ _ x)
-
-    module _ {same : Bool} (h : depth ≡ 0 → ⊥)
-        (e : same ≡ same_bytes (part_of bs from size) (part_of bs (get_or places (depth - 1) 0) (get_or lengths (depth - 1) 0))) where
-      deep : depth ≡ suc (depth - 1)
-      deep = omega arith
-
-      pub other_name : not same ≡ true → false ≡ is_container bs p n
-      other_name x = sym (item _ _ r refl ∙ rw deep (with-other found stage _ _ _ _ (sym e ∙ not-true same x)))
-
-      pub walking-closed : {found' : Bool} → not same ≡ false → found' ≡ (found || eqb stage 2) → Walking bs p n end places lengths (depth - 1) 0 found' next
-      walking-closed x f = record {
-        to = r.stands.ahead.2;
-        fits = r.walking.fits;
-        lie = lie-closed bs places lengths depth r.walking.lie;
-        same = rw f (shut (depth - 1) deep (sym e ∙ not-false same x));
-      }
-
-  -- what opens and closes nothing
-  pub walking-empty : {next : ℕ} → Told bs p n end places lengths depth stage found at (Empty next) → Walking bs p n end places lengths depth 0 found next
-  walking-empty r =
-      record { to = r.stands.ahead.1; fits = r.walking.fits; lie = r.walking.lie; same = item _ _ r refl ∙ with-empty found stage _ _ }
-
-  pub walking-skipped : {next : ℕ} → Told bs p n end places lengths depth stage found at (Skipped next) → Walking bs p n end places lengths depth 0 found next
-  walking-skipped r =
-      record { to = r.stands.ahead.1; fits = r.walking.fits; lie = r.walking.lie; same = item _ _ r refl ∙ with-skipped found stage _ _ }
-
-  module _ {from next : ℕ} (r : Told bs p n end places lengths depth stage found at (Text from next)) where
-    pub text-lies : (from ≤ next) × (next ≤ length bs)
-    text-lies = (r.stands.ahead.0, omega (arith, r.stands.ahead.2, r.walking.fits))
-
-    pub walking-text : {stage' : ℕ} → stage' ≡ text_stage stage (stretch bs from next) → Walking bs p n end places lengths depth stage' found next
-    walking-text e =
-        record { to = r.stands.ahead.2; fits = r.walking.fits; lie = r.walking.lie; same = item _ _ r refl ∙ with-text found stage _ _ _ ∙ rw e }
+    pub walk-other : (item ≡ Empty) ⊎ (item ≡ Skipped) → b ≡ decides found 0 names behind
+    walk-other =
+        ⊎_elim (λ (i : item ≡ Empty). left ∙ rw i (with-empty found stage names behind))
+        (λ (i : item ≡ Skipped). left ∙ rw i (with-skipped found stage names behind))
 
   -- nothing is left
-  module _ (w : Walking bs p n end places lengths depth stage found at) (done : end ≤ at) where
-    left : is_container bs p n ≡ ends_well found stage (open_names bs places lengths depth) []
+  module _ (done : true ≡ eqb (length rest) 0) where
+    last : b ≡ ends_well found stage names []
     unfolding decides Option-elim
-    left = w.same ∙ rw (stretch-none bs at end done, reads_nothing)
+    last =
+        elim rest as (λ r. b ≡ decides found stage names r → true ≡ eqb (length r) 0 → b ≡ ends_well found stage names [])
+        [ [] ↦ λ w d. w ∙ rw reads_nothing | x ∷ xs ↦ λ w d. cc (d ∙ eqb-suc-zero (length xs)) ] w done
 
-    pub still_open : (depth ≡ 0 → ⊥) → false ≡ is_container bs p n
+    pub still_open : (r : Bool) → r ≡ eqb (length names) 0 → r ≡ false → r ≡ b
     unfolding ends_well
-    still_open h = let d : depth ≡ suc (depth - 1) = omega arith in sym (left ∙ rw d)
+    still_open r e h =
+        elim names as (λ ns. b ≡ ends_well found stage ns [] → r ≡ eqb (length ns) 0 → r ≡ b)
+        [ [] ↦ λ l e. cc (sym h ∙ e) | n ∷ ns ↦ λ l e. h ∙ sym l ] last e
 
-    pub all_closed : depth ≡ 0 → found ≡ is_container bs p n
+    pub all_closed : true ≡ eqb (length names) 0 → found ≡ b
     unfolding ends_well
-    all_closed h = sym (left ∙ rw h)
+    all_closed =
+        elim names as (λ ns. b ≡ ends_well found stage ns [] → true ≡ eqb (length ns) 0 → found ≡ b)
+        [ [] ↦ λ l e. sym l | n ∷ ns ↦ λ l e. cc (e ∙ eqb-suc-zero (length ns)) ] last

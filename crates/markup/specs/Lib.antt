@@ -1,4 +1,5 @@
--- Stretches of the metadata in the file, and items by their places.
+-- Classes of bytes, items, and the names of open tags.
 pub mod Stretches
-pub mod Tokens
+pub mod Items
 pub mod Open
+pub mod Stages

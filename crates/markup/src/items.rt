@@ -1,185 +1,138 @@
-// The items of the metadata, one at a time: what stands at a place, and where the next item begins.
-ghost use Rattle.std.specs.Prelude.{◌≡◌, ◌<◌, ◌≤◌, length, get_or};
-ghost use Rattle.format.specs.Markup.{begins_name, tag_at, end_tag_at, item_at};
-ghost use Rattle.markup.specs.Stretches.{stretch};
-ghost use Rattle.markup.specs.Tokens.{Stands, Unquoted, Past, tag_token, tag_behind, skipped_behind, declaration_at};
+// The items of the metadata, one at a time: what bytes begin with, and what stands behind it.
+ghost use Rattle.std.specs.Prelude.{◌≡◌, ◌<◌, length};
+ghost use Rattle.format.specs.Markup.{begins_name, behind_first, quote_after, behind_tag, tag_at, end_tag_at, item_at};
+ghost use Rattle.markup.specs.Items.{rest_in, quote_in, IsQuote, tag_in, skipped_behind, found_in};
 
-use crate::{Token, stretches};
+use crate::stretches::{is_name_byte, is_text_byte, is_white, split};
+
+// A start or an end tag by its name, an empty-element tag, a text by its bytes, a skipped part.
+#[derive(Clone, Copy)]
+pub enum Item<'a> {
+    Start(&'a [u8]),
+    Close(&'a [u8]),
+    Empty,
+    Text(&'a [u8]),
+    Skipped,
+}
 
 // ---- skipped parts
 
-// The rest of a skipped part, from behind its opener on: it ends with the first closer m.
-fn skip(s: &[u8], at: u64, end: u64, m: &[u8]) -> Token
-    requires { (at ≤ end) × (end ≤ length s.now) × (0 < length m.now) }
-    ensures { Stands s.now at end (skipped_behind m.now (stretch s.now at end)) result }
+// What stands behind the first closer.
+fn behind_first<'a>(bytes: &'a [u8], closer: &[u8]) -> Option<&'a [u8]>
+    ensures { rest_in result ≡ behind_first closer.now bytes.now }
 {
-    let size = m.len() as u64;
-    if end - at < size {
-        return Token::Broken;
+    for at in 0..bytes.len() {
+        if let Some(rest) = bytes[at..].strip_prefix(closer) {
+            return Some(rest);
+        }
     }
-    let count = end - at - size + 1;
-    let i = stretches::first_of(s, at as usize, count as usize, m) as u64;
-    if i == count {
-        return Token::Broken;
-    }
-    Token::Skipped {
-        next: at + i + size,
-    }
+    None
 }
 
-// A comment or a character-data section, from behind `<!` on. Nothing else begins so.
-fn declaration(s: &[u8], at: u64, end: u64) -> Token
-    requires { (at ≤ end) × (end ≤ length s.now) }
-    ensures { Stands s.now at end (declaration_at (stretch s.now at end)) result }
+// The rest of a skipped part, from behind its opener on: it ends with the first closer.
+fn skip<'a>(bytes: &'a [u8], closer: &[u8]) -> Option<(Item<'a>, &'a [u8])>
+    ensures { found_in result ≡ skipped_behind closer.now bytes.now }
 {
-    if stretches::begins_with(s, at, end, b"--") {
-        return skip(s, at + 2, end, b"-->");
-    }
-    if stretches::begins_with(s, at, end, b"[CDATA[") {
-        return skip(s, at + 7, end, b"]]>");
-    }
-    Token::Broken
+    let rest = behind_first(bytes, closer)?;
+    Some((Item::Skipped, rest))
 }
 
 // ---- tags
 
-// Behind the quote q that closes the stretch from at on; end where none does.
-fn behind_quote(s: &[u8], at: u64, end: u64, q: u64) -> u64
-    requires { (at ≤ end) × (end ≤ length s.now) × (0 < q) }
-    ensures { Unquoted s.now at end q result }
+// The quote that is open behind a byte of a start tag, by the one that was open before it.
+#[tactic(auto, unfolding(format::specs::Markup::quote_after, format::specs::Markup::quote, format::specs::Bytes::any_of))]
+fn quote_after(quote: Option<u8>, b: u8) -> Option<u8>
+    requires { IsQuote quote }
+    ensures same { quote_in result ≡ quote_after (quote_in quote) b }
+    ensures right { IsQuote result }
 {
-    let mark = stretches::next_byte(s, at, end, q);
-    if mark == end {
-        return end;
+    match quote {
+        None if b == b'"' || b == b'\'' => Some(b),
+        Some(q) if q == b => None,
+        _ => quote,
     }
-    mark + 1
 }
 
-// Behind the byte b of a start tag, which stands at i outside quotes and doesn't end it: behind all that it encloses where it is a quote.
-fn behind_byte(s: &[u8], i: u64, end: u64, b: u64) -> u64
-    requires { (i < end) × (end ≤ length s.now) × (b ≡ get_or s.now i 0) }
-    ensures { Past s.now i end b result }
+// The rest of a start tag, from behind its name on: whether the tag is empty, `/` being the last byte before its `>`, and what stands behind that, the
+// first outside quotes.
+fn behind_tag(bytes: &[u8]) -> Option<(bool, &[u8])>
+    ensures { tag_in result ≡ behind_tag 0 0 bytes.now }
 {
-    if b == 34 {
-        return behind_quote(s, i + 1, end, b);
-    }
-    if b == 39 {
-        return behind_quote(s, i + 1, end, b);
-    }
-    i + 1
-}
-
-// A start tag, or an empty-element tag: `/` was the last byte before its `>`.
-fn tag_of(last: u64, from: u64, length: u64, next: u64) -> Token
-    ensures { result ≡ tag_token last from length next }
-{
-    if last == 47 {
-        return Token::Empty { next };
-    }
-    Token::Start { from, length, next }
-}
-
-// The rest of a start tag, from behind its name on: it ends at the first `>` outside quotes.
-fn tag_end(s: &[u8], from: u64, at: u64, end: u64) -> Token
-    requires { (from ≤ at) × (at ≤ end) × (end ≤ length s.now) }
-    ensures { Stands s.now from end (tag_behind (stretch s.now from at) (stretch s.now at end)) result }
-{
-    let mut last: u64 = 0;
-    let mut i = at;
-    while i < end {
-        let b = fields::byte_at(s, i);
-        if b == 62 {
-            return tag_of(last, from, at - from, i + 1);
+    let mut quote = None;
+    for (i, b) in bytes.iter().enumerate() {
+        if quote.is_none() {
+            if *b == b'>' {
+                return Some((0 < i && bytes[i - 1] == b'/', &bytes[i + 1..]));
+            }
+            if *b == b'<' {
+                return None;
+            }
         }
-        if b == 60 {
-            return Token::Broken;
-        }
-        last = b;
-        i = behind_byte(s, i, end, b);
+        quote = quote_after(quote, *b);
     }
-    Token::Broken
+    None
 }
 
-// Whether the bytes from at up to stop begin as a name does: there is one, and the first isn't `!`.
-fn begins_name(s: &[u8], at: u64, stop: u64) -> bool
-    requires { (at ≤ stop) × (stop ≤ length s.now) }
-    ensures { result ≡ begins_name (stretch s.now at stop) }
+// Whether bytes are a name: there is one, and the first is not `!`.
+fn begins_name(bytes: &[u8]) -> bool
+    ensures { result ≡ begins_name bytes.now }
 {
-    if at == stop {
-        return false;
-    }
-    if fields::byte_at(s, at) == 33 {
-        return false;
-    }
-    true
+    !bytes.is_empty() && bytes[0] != b'!'
 }
 
 // A start tag or an empty-element tag, from behind `<` on.
-fn tag(s: &[u8], at: u64, end: u64) -> Token
-    requires { (at ≤ end) × (end ≤ length s.now) }
-    ensures { Stands s.now at end (tag_at (stretch s.now at end)) result }
+fn tag(bytes: &[u8]) -> Option<(Item<'_>, &[u8])>
+    ensures { found_in result ≡ tag_at bytes.now }
 {
-    let stop = stretches::name_end(s, at, end);
-    if !begins_name(s, at, stop) {
-        return Token::Broken;
+    let (name, rest) = split(bytes, is_name_byte);
+    if !begins_name(name) {
+        return None;
     }
-    tag_end(s, at, stop, end)
+    let (is_empty, rest) = behind_tag(rest)?;
+    Some((
+        if is_empty {
+            Item::Empty
+        } else {
+            Item::Start(name)
+        },
+        rest,
+    ))
 }
 
 // An end tag, from behind `</` on.
-fn end_tag(s: &[u8], at: u64, end: u64) -> Token
-    requires { (at ≤ end) × (end ≤ length s.now) }
-    ensures { Stands s.now at end (end_tag_at (stretch s.now at end)) result }
+fn end_tag(bytes: &[u8]) -> Option<(Item<'_>, &[u8])>
+    ensures { found_in result ≡ end_tag_at bytes.now }
 {
-    let stop = stretches::name_end(s, at, end);
-    if !begins_name(s, at, stop) {
-        return Token::Broken;
+    let (name, rest) = split(bytes, is_name_byte);
+    if !begins_name(name) {
+        return None;
     }
-    let mark = stretches::white_end(s, stop, end);
-    if mark == end {
-        return Token::Broken;
-    }
-    if fields::byte_at(s, mark) != 62 {
-        return Token::Broken;
-    }
-    Token::Close {
-        from: at,
-        length: stop - at,
-        next: mark + 1,
-    }
+    let (_, rest) = split(rest, is_white);
+    let rest = rest.strip_prefix(b">")?;
+    Some((Item::Close(name), rest))
 }
 
 // ---- any item
 
-// What begins with the `<` at a place.
-fn mark_at(s: &[u8], at: u64, end: u64) -> Token
-    requires { (at < end) × (end ≤ length s.now) × (get_or s.now at 0 ≡ 60) }
-    ensures { Stands s.now at end (item_at (stretch s.now at end)) result }
+// The item that bytes begin with, and what stands behind it.
+pub fn item_at(bytes: &[u8]) -> Option<(Item<'_>, &[u8])>
+    ensures { found_in result ≡ item_at bytes.now }
 {
-    if at + 1 == end {
-        return Token::Broken;
+    let Some(mark) = bytes.strip_prefix(b"<") else {
+        let (text, rest) = split(bytes, is_text_byte);
+        return Some((Item::Text(text), rest));
+    };
+    if let Some(rest) = mark.strip_prefix(b"!--") {
+        return skip(rest, b"-->");
     }
-    let b = fields::byte_at(s, at + 1);
-    if b == 33 {
-        return declaration(s, at + 2, end);
+    if let Some(rest) = mark.strip_prefix(b"![CDATA[") {
+        return skip(rest, b"]]>");
     }
-    if b == 63 {
-        return skip(s, at + 2, end, b"?>");
+    if let Some(rest) = mark.strip_prefix(b"?") {
+        return skip(rest, b"?>");
     }
-    if b == 47 {
-        return end_tag(s, at + 2, end);
+    if let Some(rest) = mark.strip_prefix(b"/") {
+        return end_tag(rest);
     }
-    tag(s, at + 1, end)
-}
-
-// The item that stands at a place.
-pub fn item_at(s: &[u8], at: u64, end: u64) -> Token
-    requires { (at < end) × (end ≤ length s.now) }
-    ensures { Stands s.now at end (item_at (stretch s.now at end)) result }
-{
-    if fields::byte_at(s, at) == 60 {
-        return mark_at(s, at, end);
-    }
-    let next = stretches::text_end(s, at, end);
-    Token::Text { from: at, next }
+    tag(mark)
 }

@@ -1,84 +1,110 @@
 // Whether the metadata declare a chunk container: the items nest, and an outermost METADATA has the container's section.
-ghost use Rattle.std.specs.Prelude.{◌≡◌, ◌||◌, ◌+◌, ◌≤◌, length, eqb};
-ghost use Rattle.format.specs.Bytes.{part_of};
-ghost use Rattle.format.specs.Container.{same_bytes, in_section, start_stage, text_stage, is_container};
-ghost use Rattle.markup.specs.Stretches.{stretch};
-ghost use Rattle.markup.specs.Open.{Lie, open_names};
+ghost use Rattle.std.specs.Prelude.{◌≡◌, ◌==◌, ◌||◌, ◌+◌, ◌<◌, ◌≤◌, [], ◌∷◌, length, MatchOption};
+ghost use Rattle.format.specs.Container.{in_section, start_stage, text_stage, is_container};
+ghost use Rattle.markup.specs.Stages.{number};
 
-use crate::{Token, items};
+use crate::items::{Item, item_at};
+use std::marker::Model;
 
-// Whether the count bytes from a place on are those of name.
-fn is_named(s: &[u8], from: u64, count: u64, name: &[u8]) -> bool
-    requires { from + count ≤ length s.now }
-    ensures { result ≡ same_bytes (part_of s.now from count) name.now }
-{
-    if count != name.len() as u64 {
-        return false;
-    }
-    fields::same_at(s, from, name)
+// The section's tags, outermost first.
+const SECTION: [&[u8]; 3] = [b"METADATA", b"AttachmentSchema", b"DataFormat"];
+
+// The names of the open tags, of which there are at most 64. Clauses see the list of them, innermost first.
+#[derive(Drop)]
+struct Open<'a> {
+    names: [&'a [u8]; 64],
+    depth: usize,
 }
 
-// Whether two stretches have the same bytes.
-fn same_names(s: &[u8], a: u64, n: u64, b: u64, m: u64) -> bool
-    requires { (a + n ≤ length s.now) × (b + m ≤ length s.now) }
-    ensures { result ≡ same_bytes (part_of s.now a n) (part_of s.now b m) }
-{
-    if n != m {
-        return false;
-    }
-    fields::same_range(n, s, a, s, b)
+impl<'a> Model for Open<'a> {
+    ghost use Rattle.std.specs.Prelude.{List, ℕ};
+    ghost use Rattle.markup.specs.Open.{open_names, Few};
+
+    ghost Value = { List (List ℕ) };
+
+    ghost view = { open_names };
+
+    ghost invariant = { Few };
 }
 
-// Whether the open tags are the section's three.
-fn in_section(s: &[u8], places: &[u64; 64], lengths: &[u64; 64], depth: usize) -> bool
-    requires { Lie s.now places.now lengths.now depth }
-    ensures { result ≡ in_section (open_names s.now places.now lengths.now depth) }
-{
-    if depth != 3 {
-        return false;
+impl<'a> Open<'a> {
+    fn new() -> Self
+        ensures { result ≡ [] }
+    {
+        Open {
+            names: [b""; 64],
+            depth: 0,
+        }
     }
-    if !is_named(s, places[2], lengths[2], b"DataFormat") {
-        return false;
+
+    fn is_empty(&self) -> bool
+        ensures { result ≡ (length self.now == 0) }
+    {
+        self.depth == 0
     }
-    if !is_named(s, places[1], lengths[1], b"AttachmentSchema") {
-        return false;
+
+    fn is_full(&self) -> bool
+        ensures value { result ≡ (length self.now == 64) }
+        ensures few { length self.now ≤ 64 }
+    {
+        self.depth == 64
     }
-    is_named(s, places[0], lengths[0], b"METADATA")
+
+    fn push(&mut self, name: &'a [u8])
+        requires { length self.old < 64 }
+        ensures { self.new ≡ name.now ∷ self.old }
+    {
+        self.names[self.depth] = name;
+        self.depth += 1;
+    }
+
+    fn pop(&mut self) -> Option<&'a [u8]>
+        ensures { MatchOption result ((self.old ≡ []) × (self.new ≡ [])) (λ name. self.old ≡ name.now ∷ self.new) }
+    {
+        if self.depth == 0 {
+            return None;
+        }
+        self.depth -= 1;
+        Some(self.names[self.depth])
+    }
+
+    // Whether they are the section's three.
+    fn is_section(&self) -> bool
+        ensures { result ≡ in_section self.now }
+    {
+        self.names[..self.depth] == SECTION[..]
+    }
 }
 
-// How much of the section's end has come with a start tag, which is the innermost of the open tags.
-fn start_stage(s: &[u8], places: &[u64; 64], lengths: &[u64; 64], depth: usize) -> u64
-    requires { Lie s.now places.now lengths.now depth }
-    ensures { result ≡ start_stage (open_names s.now places.now lengths.now depth) }
-{
-    if in_section(s, places, lengths, depth) {
-        return 1;
-    }
-    0
+// How much of the section's end has come: its last start tag, just behind that; its text, where that is all that follows.
+#[derive(Clone, Copy, PartialEq, Eq)]
+enum Stage {
+    Elsewhere,
+    Begun,
+    Said,
 }
 
-// How much of it has come with a text.
-fn text_stage(s: &[u8], stage: u64, from: u64, next: u64) -> u64
-    requires { (from ≤ next) × (next ≤ length s.now) }
-    ensures { result ≡ text_stage stage (stretch s.now from next) }
+// With a start tag, which is the innermost of the open ones.
+#[tactic(auto, unfolding(format::specs::Container::start_stage))]
+fn start_stage(tags: &Open) -> Stage
+    ensures { number result ≡ start_stage tags.now }
 {
-    if stage != 1 {
-        return 0;
+    if tags.is_section() {
+        Stage::Begun
+    } else {
+        Stage::Elsewhere
     }
-    if is_named(s, from, next - from, b"CHUNKCONTAINER") {
-        return 2;
-    }
-    0
 }
 
-// Whether there was a section, with an end tag at that stage.
-fn found_after(found: bool, stage: u64) -> bool
-    ensures { result ≡ (found || eqb stage 2) }
+// With a text.
+fn text_stage(stage: Stage, text: &[u8]) -> Stage
+    ensures { number result ≡ text_stage (number stage) text.now }
 {
-    if found {
-        return true;
+    if stage == Stage::Begun && text == b"CHUNKCONTAINER".as_slice() {
+        Stage::Said
+    } else {
+        Stage::Elsewhere
     }
-    stage == 2
 }
 
 // Whether the n bytes of metadata from p on declare a chunk container.
@@ -86,57 +112,37 @@ pub fn is_container(s: &[u8], p: u64, n: u64) -> bool
     requires { p + n ≤ length s.now }
     ensures { result ≡ is_container s.now p n }
 {
-    let end = p + n;
-    let mut places = [0u64; 64];
-    let mut lengths = [0u64; 64];
-    let mut depth: usize = 0;
-    let mut stage: u64 = 0;
+    let mut rest = fields::part(s, p, n);
+    let mut tags = Open::new();
+    let mut stage = Stage::Elsewhere;
     let mut found = false;
-    let mut at = p;
-    while at < end {
-        let token = items::item_at(s, at, end);
-        match token {
-            Token::Broken => {
-                return false;
-            }
-            Token::Start { from, length, next } => {
-                if depth == 64 {
+    // a while loop: each item says what stands behind it, and an iterator of items would have no place for bytes that are no item
+    while !rest.is_empty() {
+        let Some((item, behind)) = item_at(rest) else {
+            return false;
+        };
+        rest = behind;
+        match item {
+            Item::Start(name) => {
+                if tags.is_full() {
                     return false;
                 }
-                places[depth] = from;
-                lengths[depth] = length;
-                depth += 1;
-                stage = start_stage(s, &places, &lengths, depth);
-                at = next;
+                tags.push(name);
+                stage = start_stage(&tags);
             }
-            Token::Close { from, length, next } => {
-                if depth == 0 {
+            Item::Close(name) => {
+                let Some(last) = tags.pop() else {
+                    return false;
+                };
+                if name != last {
                     return false;
                 }
-                depth -= 1;
-                if !same_names(s, from, length, places[depth], lengths[depth]) {
-                    return false;
-                }
-                found = found_after(found, stage);
-                stage = 0;
-                at = next;
+                found |= stage == Stage::Said;
+                stage = Stage::Elsewhere;
             }
-            Token::Empty { next } => {
-                stage = 0;
-                at = next;
-            }
-            Token::Text { from, next } => {
-                stage = text_stage(s, stage, from, next);
-                at = next;
-            }
-            Token::Skipped { next } => {
-                stage = 0;
-                at = next;
-            }
+            Item::Text(text) => stage = text_stage(stage, text),
+            Item::Empty | Item::Skipped => stage = Stage::Elsewhere,
         }
     }
-    if depth != 0 {
-        return false;
-    }
-    found
+    tags.is_empty() && found
 }

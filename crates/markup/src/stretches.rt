@@ -1,131 +1,38 @@
-// Stretches of the metadata: to where bytes of a class reach, and where a string of bytes stands first.
-ghost use Rattle.std.specs.Prelude.{◌≡◌, ◌+◌, ◌≤◌, length};
-ghost use Rattle.format.specs.Markup.{white, name_byte, text_byte, begins};
-ghost use Rattle.markup.specs.Stretches.{stretch, other_than, Passed, First};
+// Stretches of bytes: how far bytes of a class reach, and where a string of bytes stands first.
+ghost use Rattle.std.specs.Prelude.{◌≡◌, ◌<◌, ◌++◌, ℕ, length, slice_index, true, false};
+ghost use Rattle.format.specs.Markup.{white, name_byte, text_byte};
 
 // Whether a byte is white space.
-fn is_white(b: u64) -> bool
+#[tactic(auto, unfolding(format::specs::Markup::white, format::specs::Bytes::any_of))]
+pub fn is_white(b: u8) -> bool
     ensures { result ≡ white b }
 {
-    if b == 9 {
-        return true;
-    }
-    if b == 10 {
-        return true;
-    }
-    if b == 13 {
-        return true;
-    }
-    b == 32
+    b == b'\t' || b == b'\n' || b == b'\r' || b == b' '
 }
 
 // Whether a byte may stand in a tag's name.
-fn is_name_byte(b: u64) -> bool
+#[tactic(auto, unfolding(format::specs::Markup::name_byte, format::specs::Bytes::any_of))]
+pub fn is_name_byte(b: u8) -> bool
     ensures { result ≡ name_byte b }
 {
-    if is_white(b) {
-        return false;
-    }
-    if b == 47 {
-        return false;
-    }
-    if b == 62 {
-        return false;
-    }
-    if b == 60 {
-        return false;
-    }
-    true
+    !(is_white(b) || b == b'/' || b == b'>' || b == b'<')
 }
 
-// Where the white space from at on ends.
-pub fn white_end(s: &[u8], at: u64, end: u64) -> u64
-    requires { (at ≤ end) × (end ≤ length s.now) }
-    ensures { Passed white s.now at end result }
+// Whether a byte may stand in a text.
+#[tactic(auto, unfolding(format::specs::Markup::text_byte))]
+pub fn is_text_byte(b: u8) -> bool
+    ensures { result ≡ text_byte b }
 {
-    let mut i = at;
-    while i < end {
-        if !is_white(fields::byte_at(s, i)) {
-            return i;
-        }
-        i += 1;
-    }
-    i
+    b != b'<'
 }
 
-// Where the name from at on ends.
-pub fn name_end(s: &[u8], at: u64, end: u64) -> u64
-    requires { (at ≤ end) × (end ≤ length s.now) }
-    ensures { Passed name_byte s.now at end result }
+// The bytes before the first that is not of a class, and those from it on.
+pub fn split<F: Fn(u8) -> bool>(bytes: &[u8], is_of: F) -> (&[u8], &[u8])
+    requires { F.IsAlwaysCallable is_of }
+    ensures parts { bytes.now ≡ result.0.now ++ result.1.now }
+    ensures before { (k : ℕ) → k < length result.0.now → F.post is_of (slice_index bytes.now k) true }
+    ensures stop { length result.0.now < length bytes.now → F.post is_of (slice_index bytes.now (length result.0.now)) false }
 {
-    let mut i = at;
-    while i < end {
-        if !is_name_byte(fields::byte_at(s, i)) {
-            return i;
-        }
-        i += 1;
-    }
-    i
-}
-
-// Where the text from at on ends: at the next `<`, or with the metadata.
-pub fn text_end(s: &[u8], at: u64, end: u64) -> u64
-    requires { (at ≤ end) × (end ≤ length s.now) }
-    ensures { Passed text_byte s.now at end result }
-{
-    let mut i = at;
-    while i < end {
-        if fields::byte_at(s, i) == 60 {
-            return i;
-        }
-        i += 1;
-    }
-    i
-}
-
-// Where the next byte q stands from at on; end where there is none.
-pub fn next_byte(s: &[u8], at: u64, end: u64, q: u64) -> u64
-    requires { (at ≤ end) × (end ≤ length s.now) }
-    ensures { Passed (other_than q) s.now at end result }
-{
-    let mut i = at;
-    while i < end {
-        if fields::byte_at(s, i) == q {
-            return i;
-        }
-        i += 1;
-    }
-    i
-}
-
-// Whether the bytes from at on begin with those of m.
-pub fn begins_with(s: &[u8], at: u64, end: u64, m: &[u8]) -> bool
-    requires { (at ≤ end) × (end ≤ length s.now) }
-    ensures { result ≡ begins m.now (stretch s.now at end) }
-{
-    if end - at < m.len() as u64 {
-        return false;
-    }
-    fields::same_at(s, at, m)
-}
-
-// The first of the count positions from p on at which m stands; count where there is none.
-pub fn first_of(s: &[u8], p: usize, count: usize, m: &[u8]) -> usize
-    requires { p + count + length m.now ≤ length s.now + 1 }
-    ensures { First m.now s.now p count result }
-{
-    let mut i: usize = 0;
-    'outer: while i < count {
-        let at = p + i;
-        let mut j: usize = 0;
-        while j < m.len() {
-            if s[at + j] != m[j] {
-                i += 1;
-                continue 'outer;
-            }
-            j += 1;
-        }
-        break 'outer;
-    }
-    i
+    let end = bytes.iter().position(|b| !is_of(*b)).unwrap_or(bytes.len());
+    bytes.split_at(end)
 }

@@ -1,22 +1,20 @@
 -- Laws of the walk over the chunks of a container, in the form that a loop wants: the whole equals what is left. Assumes nothing.
 -- What is left at c has the fuel end - c: each chunk goes on by at least 20, so more fuel changes nothing.
 use Prim.Native.Nat.{ℕ, zero, suc, ◌+◌, ◌-◌, ◌≤◌, ◌<◌}
-use mathlib.Core.Path.{◌≡◌, refl, sym, ◌∙◌}
+use mathlib.Core.Path.{◌≡◌, refl, sym, ap, ◌∙◌}
 use mathlib.Core.List.{List, [], ◌++◌}
-use mathlib.Core.Bool.{Bool, true, false, cond, ◌||◌, or-true, or-false}
+use mathlib.Core.Bool.{Bool, true, false, cond, ◌||◌}
 use native.Mathlib.Omega.{arith}
 use lib.ListN.{length}
 use lib.Dec.{ltb}
 use borrow.Author.Tests.{lt-ltb, le-ltb}
-use Rattle.format.specs.Checks.{first}
+use Rattle.std.specs.Prelude.{Option, Some, None, is_some, Ok, Err}
+use Rattle.format.specs.Checks.{Verdict, Accepted, first}
 use Rattle.format.specs.Masks.{chunk_size, next_chunk, is_mask, mask_bad, mask_shape, chunk_rows, chunks_rows, chunk_at, mask_from}
-use Rattle.format.specs.declared.Verdict.{Verdict}
-use Rattle.format.specs.declared.Verdict.TheVariants.{Accepted, Refused}
 use Rattle.format.specs.declared.MaskShape.{MaskShape}
-use Rattle.format.specs.declared.Content.TheVariants.{Mask, Other}
 use Rattle.format.specs.declared.Chunk.{Chunk}
 use Rattle.format.specs.declared.TileMask.{TileMask}
-use Rattle.format.specs.declared.TileMask.TheVariants.{Unmasked, Masked}
+use Rattle.format.specs.declared.Refusal.{Refusal}
 use Rattle.format.proofs.Below.{by_bool}
 use Rattle.format.proofs.Firsts.{first-both, first-pass, first-stop}
 use Rattle.format.proofs.ChunkWalk.{Chunked, chunk-ok}
@@ -26,11 +24,20 @@ next-after : (bs : List ℕ) (c : ℕ) → c + 20 ≤ next_chunk bs c
 unfolding next_chunk
 next-after bs c = omega arith
 
+-- the mask in the chunk at p
+abbrev pub Masked : ℕ → MaskShape → Option TileMask
+Masked p shape = Some (record { place = p; shape = shape })
+
+masked-same : (c p : ℕ) (r s : MaskShape) → Masked c r ≡ Masked p s → (c ≡ p) × (r ≡ s)
+masked-same c p r s e =
+    let m : ◌≡◌ {A = TileMask} (record { place = c; shape = r }) (record { place = p; shape = s }) = cc in
+    (ap (λ (t : TileMask). t.place) m, ap (λ (t : TileMask). t.shape) m)
+
 -- the verdict on the chunks from c to end, and the mask among them
 abbrev pub Chunks : List ℕ → ℕ → Bool → ℕ → Verdict
 Chunks bs end seen c = first (chunks_rows (end - c) bs end seen c)
 
-abbrev pub MaskOf : List ℕ → ℕ → ℕ → TileMask
+abbrev pub MaskOf : List ℕ → ℕ → ℕ → Option TileMask
 MaskOf bs end c = mask_from (end - c) bs end c
 
 module _ (bs : List ℕ) (end : ℕ) where
@@ -40,7 +47,7 @@ module _ (bs : List ℕ) (end : ℕ) where
   chunks-empty zero seen c h = refl
   chunks-empty (suc n) seen c h = rw (le-ltb c end h)
 
-  mask-empty : (n c : ℕ) → end ≤ c → mask_from n bs end c ≡ Unmasked
+  mask-empty : (n c : ℕ) → end ≤ c → mask_from n bs end c ≡ None
   unfolding mask_from
   mask-empty zero c h = refl
   mask-empty (suc n) c h = rw (le-ltb c end h)
@@ -108,9 +115,8 @@ mask-ok (suc n) bs end seen c p shape e f =
     here : is_mask bs c ≡ true → first (chunk_rows bs end seen c) ≡ Accepted → Masked c (mask_shape bs c) ≡ Masked p shape → MaskIn bs end p shape
     here m a g =
         let k = chunk-ok bs end seen c a in
-        let q : c ≡ p = cc in
-        let s : shape ≡ mask_shape bs c = cc in
-        record { good = rw (← q) (k.mask m).1; within = rw (← q) k.payload; dimensions = rw (← q) s }
+        let q = masked-same c p _ _ g in
+        record { good = rw (← q.0) (k.mask m).1; within = rw (← q.0) k.payload; dimensions = rw (← q.0) (sym q.1) }
 
 -- ---- the chunk k that was read at c
 
@@ -123,16 +129,19 @@ module _ (bs : List ℕ) (c : ℕ) (k : Chunk) (e : k ≡ chunk_at bs c) where
   unfolding chunk_at
   read-within end seen p = rw e p.payload
 
-  read-content : k.content ≡ cond (is_mask bs c) (Mask (mask_shape bs c)) Other
+  read-content : k.mask ≡ cond (is_mask bs c) (Some (mask_shape bs c)) None
   unfolding chunk_at
   read-content = rw e
 
-  read-mask : (shape : MaskShape) → k.content ≡ Mask shape → (is_mask bs c ≡ true) × (shape ≡ mask_shape bs c)
+  read-some : is_some k.mask ≡ is_mask bs c
+  read-some = by_bool (is_mask bs c) (λ m. rw (read-content, m)) (λ m. rw (read-content, m))
+
+  read-mask : (shape : MaskShape) → k.mask ≡ Some shape → (is_mask bs c ≡ true) × (shape ≡ mask_shape bs c)
   read-mask shape h =
       by_bool (is_mask bs c) (λ m. let g = rw m at read-content in (m, cc))
       (λ m. let g = rw m at read-content in let z : ◌≡◌ {A = ℕ} 0 1 = cc in absurd (omega arith))
 
-  read-other : k.content ≡ Other → is_mask bs c ≡ false
+  read-other : k.mask ≡ None → is_mask bs c ≡ false
   read-other h = by_bool (is_mask bs c) (λ m. let g = rw m at read-content in let z : ◌≡◌ {A = ℕ} 0 1 = cc in absurd (omega arith)) (λ m. m)
 
 -- ---- the loop that judges: the verdict is that on what is left from c on
@@ -147,8 +156,8 @@ module _ (bs : List ℕ) (a end : ℕ) (seen : Bool) (c : ℕ) (w : Judging bs a
 
   -- the chunk at c is judged: v
   module _ (h : c < end) (v : Verdict) (e : v ≡ first (chunk_rows bs end seen c)) where
-    pub judged-stop : (m p : ℕ) → v ≡ Refused m p → Refused m p ≡ Chunks bs end false a
-    judged-stop m p f = sym (w.same ∙ rw (chunks-step bs end c h seen) (first-stop (chunk_rows bs end seen c) _ m p (sym e ∙ f)))
+    pub judged-stop : (r : Refusal) → v ≡ Err r → Err r ≡ Chunks bs end false a
+    judged-stop r f = sym (w.same ∙ rw (chunks-step bs end c h seen) (first-stop (chunk_rows bs end seen c) _ r (sym e ∙ f)))
 
     module _ (f : v ≡ Accepted) where
       judged-passed : Chunked bs end seen c
@@ -167,11 +176,9 @@ module _ (bs : List ℕ) (a end : ℕ) (seen : Bool) (c : ℕ) (w : Judging bs a
         next : (b : Bool) → (seen || is_mask bs c) ≡ b → Judging bs a end b (c + 20 + k.length)
         next b g = record { within = judged-within; same = w.same ∙ (chunks-next bs end c h seen (sym e ∙ f) ∙ rw (g, read_next bs c k i)) }
 
-        pub judged-mask : (shape : MaskShape) → k.content ≡ Mask shape → Judging bs a end true (c + 20 + k.length)
-        judged-mask shape m = next true (rw (read-mask bs c k i shape m).0 (or-true seen))
-
-        pub judged-other : k.content ≡ Other → Judging bs a end seen (c + 20 + k.length)
-        judged-other m = next seen (rw (read-other bs c k i m) (or-false seen))
+        -- whether there was a mask is remembered
+        pub judged-next : Judging bs a end (seen || is_some k.mask) (c + 20 + k.length)
+        judged-next = next (seen || is_some k.mask) (ap (λ (b : Bool). seen || b) (sym (read-some bs c k i)))
 
 -- ---- the loop that looks for the mask: none of the chunks from c on is refused, and the mask is the one among them
 
@@ -181,7 +188,7 @@ pub record Seeking (bs : List ℕ) (a end c : ℕ) : Type 0 where
   pub same : MaskOf bs end a ≡ MaskOf bs end c
 
 module _ (bs : List ℕ) (a end c : ℕ) (w : Seeking bs a end c) where
-  pub sought-end : end ≤ c → Unmasked ≡ MaskOf bs end a
+  pub sought-end : end ≤ c → None ≡ MaskOf bs end a
   sought-end h = sym (w.same ∙ mask-empty bs end (end - c) c h)
 
   module _ (h : c < end) where
@@ -201,10 +208,10 @@ module _ (bs : List ℕ) (a end c : ℕ) (w : Seeking bs a end c) where
       pub sought-within : c + 20 + k.length ≤ end
       sought-within = read-within bs c k i end false sought-passed
 
-      pub sought-mask : (shape : MaskShape) → k.content ≡ Mask shape → Masked c shape ≡ MaskOf bs end a
+      pub sought-mask : (shape : MaskShape) → k.mask ≡ Some shape → Masked c shape ≡ MaskOf bs end a
       sought-mask shape m = let r = read-mask bs c k i shape m in sym (w.same ∙ (mask-here bs end c h r.0 ∙ rw r.1))
 
-      pub sought-other : k.content ≡ Other → Seeking bs a end (c + 20 + k.length)
+      pub sought-other : k.mask ≡ None → Seeking bs a end (c + 20 + k.length)
       sought-other m =
           let o = read-other bs c k i m in
           let n = read_next bs c k i in

@@ -5,9 +5,9 @@
 ghost use Rattle.std.specs.Prelude.{◌≡◌, Bool, true, false, ◌+◌, ◌-◌, ◌<◌, ◌≤◌, ◌^◌, length};
 ghost use Rattle.format.specs.Checks.{first};
 ghost use Rattle.format.specs.Masks.{chunk_size, chunk_bad, is_mask, mask_width, mask_height, mask_stride, mask_bad, mask_refused, chunk_rows, chunks_rows, mask_shape, chunk_at, mask_from, mask_valid};
-ghost use Rattle.format.specs.declared.Verdict.TheVariants.{Accepted};
+ghost use Rattle.format.specs.Checks.{Accepted};
 
-use format::{Chunk, Content, MaskShape, TileMask, Verdict};
+use format::{Chunk, Fault, MaskShape, Refusal, TileMask, Verdict};
 
 // The length of a chunk's payload.
 fn chunk_size(s: &[u8], c: u64) -> u64
@@ -125,18 +125,18 @@ pub fn judge_chunk(s: &[u8], end: u64, seen: bool, c: u64) -> Verdict
     ensures { result ≡ first (chunk_rows s.now end seen c) }
 {
     if chunk_bad(s, end, c) {
-        return Verdict::Refused {
-            number: 17,
+        return Err(Refusal {
+            fault: Fault::Chunk,
             place: c,
-        };
+        });
     }
     if mask_refused(s, seen, c) {
-        return Verdict::Refused {
-            number: 18,
+        return Err(Refusal {
+            fault: Fault::Mask,
             place: c,
-        };
+        });
     }
-    Verdict::Accepted
+    Ok(())
 }
 
 // A mask's dimensions.
@@ -160,19 +160,15 @@ pub fn chunk_at(s: &[u8], c: u64) -> Chunk
     requires c_in_bounds_2 { is_mask s.now c ≡ true → c + 36 ≤ length s.now }
     ensures { result ≡ chunk_at s.now c }
 {
-    let size = chunk_size(s, c);
-    if is_mask(s, c) {
-        let shape = mask_shape(s, c);
-        return Chunk {
-            place: c,
-            length: size,
-            content: Content::Mask(shape),
-        };
-    }
+    let mask = if is_mask(s, c) {
+        Some(mask_shape(s, c))
+    } else {
+        None
+    };
     Chunk {
         place: c,
-        length: size,
-        content: Content::Other,
+        length: chunk_size(s, c),
+        mask,
     }
 }
 
@@ -183,48 +179,32 @@ pub fn judge_chunks(s: &[u8], a: u64, end: u64) -> Verdict
 {
     let mut seen = false;
     let mut c = a;
+    // a while loop: each chunk says where the next one begins
     while c < end {
-        let verdict = judge_chunk(s, end, seen, c);
-        match verdict {
-            Verdict::Refused { number, place } => {
-                return Verdict::Refused { number, place };
-            }
-            Verdict::Accepted => {
-                let chunk = chunk_at(s, c);
-                let content = chunk.content;
-                c = c + 20 + chunk.length;
-                match content {
-                    Content::Mask(_) => {
-                        seen = true;
-                    }
-                    Content::Other => {}
-                }
-            }
-        }
+        judge_chunk(s, end, seen, c)?;
+        let chunk = chunk_at(s, c);
+        seen |= chunk.mask.is_some();
+        c = c + 20 + chunk.length;
     }
-    Verdict::Accepted
+    Ok(())
 }
 
 // The mask among the chunks that fill the attachment from a to end, of which none is refused.
-pub fn mask_in(s: &[u8], a: u64, end: u64) -> TileMask
+pub fn mask_in(s: &[u8], a: u64, end: u64) -> Option<TileMask>
     requires a_le_end { (a ≤ end) × (end ≤ length s.now) }
     requires a_value { first (chunks_rows (end - a) s.now end false a) ≡ Accepted }
     ensures { result ≡ mask_from (end - a) s.now end a }
 {
     let mut c = a;
+    // a while loop: each chunk says where the next one begins
     while c < end {
         let chunk = chunk_at(s, c);
-        let content = chunk.content;
-        match content {
-            Content::Mask(shape) => {
-                return TileMask::Masked { place: c, shape };
-            }
-            Content::Other => {
-                c = c + 20 + chunk.length;
-            }
+        if let Some(shape) = chunk.mask {
+            return Some(TileMask { place: c, shape });
         }
+        c = c + 20 + chunk.length;
     }
-    TileMask::Unmasked
+    None
 }
 
 // Whether the mask of the chunk at c says that the pixel in column x of row y is valid.

@@ -3,9 +3,10 @@ use Prim.Native.Nat.{ℕ, zero, suc, ◌+◌, ◌/◌, ◌^◌, ◌≤◌, ◌<�
 use mathlib.Core.Path.{◌≡◌, refl, sym, ap, ◌∙◌}
 use mathlib.Core.List.{List}
 use native.Mathlib.Omega.{arith}
-use native.Mathlib.Nat.{add-zero, add_assoc}
+use native.Mathlib.Nat.{add-zero, add_assoc, div-div-eq-div-mul}
 use lib.ListN.{length, get_or, length-replicate}
 use Rattle.format.specs.Bytes.{part_of, u32_at, u64_at}
+use Rattle.std.specs.Int.{w64, to_le_bytes}
 use Rattle.pack.specs.Pack.{bytes_of, long, zeros}
 use Rattle.format.proofs.Parts.{part_at}
 
@@ -50,6 +51,12 @@ module _ (fs : List ℕ) (p n : ℕ) (xs : List ℕ) (e : part_of fs p n ≡ xs)
   pub long-in : (o : ℕ) → o + 8 ≤ n → u64_at fs (p + o) ≡ u64_at xs o
   unfolding u64_at
   long-in o h = rw (add_assoc p o 4) (rw (int-in o (omega arith), int-in (o + 4) (omega arith)))
+
+-- ---- a Long, as std gives its bytes
+
+pub long-is : (x : ℕ) → to_le_bytes w64 x ≡ long x
+unfolding bytes_of
+long-is x = simp div-div-eq-div-mul
 
 -- ---- a Long read back
 

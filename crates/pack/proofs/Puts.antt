@@ -1,18 +1,19 @@
--- Laws of bytes put into a lent buffer: their lengths, one piece behind another, one byte, and a part of the buffer that was lent on. Assumes nothing.
-use Prim.Native.Nat.{ℕ, suc, ◌+◌, ◌-◌, ◌/◌, ◌%◌, ◌≤◌, ◌<◌}
+-- Laws of bytes put into a lent buffer: their lengths, one piece behind another, and a part of the buffer that was lent on. Assumes nothing.
+use Prim.Native.Nat.{ℕ, ◌+◌, ◌-◌, ◌≤◌}
 use mathlib.Core.Path.{◌≡◌, refl, sym, ap, ◌∙◌}
-use mathlib.Core.List.{List, [], ◌∷◌, ◌++◌, append_assoc}
+use mathlib.Core.List.{List, [], ◌++◌, append_assoc}
 use native.Mathlib.Nat.{add-zero}
-use native.Mathlib.Numerals.{add-one}
 use native.Mathlib.Omega.{arith}
-use lib.ListN.{length, take, drop, set, length-append, length-drop, take-append-drop}
-use lib.Seq.{length-take-le, take_at, drop_at, drop-drop, set_split, ext_get_or}
-use borrow.Rule.Slice.PartMut.{mid_of, put_mid, mid_len, Post-is}
+use lib.ListN.{length, take, drop, replicate, length-replicate, length-append, length-drop, take-append-drop}
+use lib.Seq.{length-take-le, take_at, drop_at, drop-drop}
+use borrow.Rule.Slice.PartMut.{put_mid, Post-is}
 use Rattle.format.specs.Bytes.{part_of}
-use Rattle.copies.specs.Copied.{copied}
-use Rattle.copies.proofs.Copies.{copied-length, copied-in}
-use Rattle.pack.specs.Pack.{bytes_of, zeros}
+use Rattle.std.specs.Int.{w64, to_le_bytes}
+use Rattle.std.proofs.lemmas.List.{places}
+use borrow.Author.Rules.{rules}
+use Rattle.pack.specs.Pack.{long, zeros}
 use Rattle.pack.specs.Put.{put}
+use Rattle.pack.proofs.Numbers.{bytes-length, long-is}
 
 -- ---- a put
 
@@ -50,48 +51,6 @@ module _ (u xs : List ℕ) (p : ℕ) (h : p + length xs ≤ length u) where
       let e : p + length (xs ++ ys) ≡ p + length xs + length ys = rw (length-append xs ys) (omega arith) in
       rw (take_put, drop-put (length ys), e) (append_assoc (take p u) xs _ ∙ ap (take p u ++◌) (sym (append_assoc xs ys _)))
 
--- ---- one byte
-
-pub put_one : (u : List ℕ) (p x : ℕ) → p < length u → set u p x ≡ put u p (x ∷ [])
-unfolding put
-put_one u p x h = rw (add-one p) (set_split u p x h)
-
-pub put-cons : (u : List ℕ) (p x : ℕ) (xs : List ℕ) → p < length u → put (set u p x) (p + 1) xs ≡ put u p (x ∷ xs)
-put-cons u p x xs h = rw (put_one u p x h) (put_then u (x ∷ []) p (omega arith) xs)
-
--- ---- a loop that puts one byte after the other: what is left to be put after i of n, one byte on, and in the end
-
-pub zeros-start : (u : List ℕ) (p n : ℕ) → put u (p + 0) (zeros (n - 0)) ≡ put u p (zeros n)
-zeros-start u p n = let e : n - 0 ≡ n = omega arith in rw (add-zero p, e)
-
-module _ (u : List ℕ) (p i n : ℕ) (h : p + i < length u) (l : i < n) where
-  left-next : n - i ≡ suc (n - (i + 1))
-  left-next = omega arith
-
-  -- the next of n - i bytes is x
-  left-put : (x : ℕ) (xs : List ℕ) → put u (p + i) (x ∷ xs) ≡ put (set u (p + i) x) (p + (i + 1)) xs
-  left-put x xs = let e : p + (i + 1) ≡ p + i + 1 = omega arith in rw e (sym (put-cons u (p + i) x xs h))
-
-  pub zeros-next : put u (p + i) (zeros (n - i)) ≡ put (set u (p + i) 0) (p + (i + 1)) (zeros (n - (i + 1)))
-  unfolding zeros
-  zeros-next = rw left-next (left-put 0 _)
-
-  pub bytes_next : (x : ℕ) → put u (p + i) (bytes_of (n - i) x) ≡ put (set u (p + i) (x % 256)) (p + (i + 1)) (bytes_of (n - (i + 1)) (x / 256))
-  unfolding bytes_of
-  bytes_next x = rw left-next (left-put (x % 256) _)
-
-module _ (u : List ℕ) (p i n : ℕ) (h : n ≤ i) where
-  left-none : n - i ≡ 0
-  left-none = omega arith
-
-  pub zeros-end : put u (p + i) (zeros (n - i)) ≡ u
-  unfolding zeros
-  zeros-end = rw left-none (put-none u (p + i))
-
-  pub bytes-end : (x : ℕ) → put u (p + i) (bytes_of (n - i) x) ≡ u
-  unfolding bytes_of
-  bytes-end x = rw left-none (put-none u (p + i))
-
 -- ---- a part of the buffer that was lent on, and is back as ys
 
 pub put-part : (u ys : List ℕ) (p e : ℕ) → p ≤ e → length ys ≡ e - p → put_mid p (e - p) u ys ≡ put u p ys
@@ -100,26 +59,25 @@ put-part u ys p e h l =
     let f : e ≡ p + length ys = omega arith in
     ap (λ (z : List ℕ). take p u ++ (ys ++ z)) (Post-is p e u h ∙ ap (λ (i : ℕ). drop i u) f)
 
--- a copy of as many bytes as there are
-pub copied-whole : (d s : List ℕ) (n : ℕ) → length d ≡ n → length s ≡ n → copied d s 0 n ≡ s
-copied-whole d s n e f =
-    ext_get_or 0 _ _ (copied-length d s 0 n ∙ e ∙ sym f)
-    (λ k b.
-    let l : k < length d = rw (copied-length d s 0 n) at b in
-    copied-in d s 0 n k l (omega arith) (omega arith))
+-- the n bytes from p on, when they became those of xs
+put_here : (u ys xs : List ℕ) (p n : ℕ) → ys ≡ xs → length xs ≡ n → put_mid p (p + n - p) u ys ≡ put u p xs
+put_here u ys xs p n e l = put-part u ys p (p + n) (omega arith) (ap length e ∙ l ∙ omega arith) ∙ ap (put u p) e
 
--- the part from p up to e, when the n bytes at q of s were copied into it
-pub put-copied : (u s ys : List ℕ) (p e q t n : ℕ) → e ≡ p + n → t ≡ q + n → e ≤ length u → t ≤ length s
-    → ys ≡ copied (mid_of p (e - p) u) (take (t - q) (drop q s)) 0 n
-    → put_mid p (e - p) u ys ≡ put u p (part_of s q n)
+pub zeros_here : (u ys : List ℕ) (p n : ℕ) → p + n ≤ length u → ys ≡ replicate (length (take (p + n - p) (drop p u))) 0
+    → put_mid p (p + n - p) u ys ≡ put u p (zeros n)
+unfolding zeros
+zeros_here u ys p n h e =
+    let l : length (take (p + n - p) (drop p u)) ≡ n = search (rules, places) in
+    put_here u ys (replicate n 0) p n (e ∙ ap (λ (k : ℕ). replicate k 0) l) (length-replicate n 0)
+
+pub part_here : (u s ys : List ℕ) (p q n : ℕ) → q + n ≤ length s → ys ≡ take (q + n - q) (drop q s) → put_mid p (p + n - p) u ys ≡ put u p (part_of s q n)
 unfolding part_of
-put-copied u s ys p e q t n g g' h h' c =
-    let i : e - p ≡ n = omega arith in
-    let i' : t - q ≡ n = omega arith in
-    let a : length (mid_of p (e - p) u) ≡ n = mid_len p e u h ∙ i in
-    let b : length (take (t - q) (drop q s)) ≡ n = mid_len q t s h' ∙ i' in
-    let w = c ∙ copied-whole _ _ n a b in
-    put-part u ys p e (omega arith) (ap length w ∙ b ∙ sym i) ∙ ap (put u p) (w ∙ ap (λ (m : ℕ). take m (drop q s)) i')
+part_here u s ys p q n h e =
+    let f : q + n - q ≡ n = omega arith in
+    put_here u ys (take n (drop q s)) p n (e ∙ ap (λ (k : ℕ). take k (drop q s)) f) (search (rules, places))
+
+pub long_here : (u ys : List ℕ) (p x : ℕ) → ys ≡ to_le_bytes w64 x → put_mid p (p + 8 - p) u ys ≡ put u p (long x)
+long_here u ys p x e = put_here u ys (long x) p 8 (e ∙ long-is x) (bytes-length 8 x)
 
 -- ---- pieces put one behind the other
 

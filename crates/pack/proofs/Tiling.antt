@@ -15,7 +15,7 @@ use Rattle.format.specs.Checks.{first}
 use Rattle.format.specs.Segments.{allocated_size, used_size, room, next_segment, length_bad, name_bad, allocated_bad, used_bad, end_bad, sizes_bad, role_bad, walked, segments_rows}
 use Rattle.format.specs.WellFormed as W
 use Rattle.format.specs.WellFormed.{Chain, Each, Among}
-use Rattle.format.specs.declared.Verdict.TheVariants.{Accepted}
+use Rattle.format.specs.Checks.{Accepted}
 use Rattle.format.proofs.Below.{by_bool, all-intro}
 use Rattle.format.proofs.SegmentLaws.{next-is}
 use Rattle.format.proofs.Walk.{chain-segments}

@@ -13,7 +13,7 @@ pub fn allocated_size(n: u64) -> u64
     requires { n ≤ 2 ^ 60 }
     ensures { result ≡ allocated n }
 {
-    (n + 31) / 32 * 32
+    n.next_multiple_of(32)
 }
 
 // The length of a segment with a content of n bytes.
@@ -31,13 +31,7 @@ pub fn put_zeros(out: &mut [u8], p: u64, n: u64)
     requires { p + n ≤ length out.old }
     ensures { out.new ≡ put out.old p (zeros n) }
 {
-    let at = p as usize;
-    let count = n as usize;
-    let mut i: usize = 0;
-    while i < count {
-        out[at + i] = 0;
-        i += 1;
-    }
+    out[p as usize..(p + n) as usize].fill(0);
 }
 
 // Puts the n bytes at q of s from p on.
@@ -45,13 +39,8 @@ pub fn put_part(out: &mut [u8], p: u64, s: &[u8], q: u64, n: u64)
     requires { (p + n ≤ length out.old) × (q + n ≤ length s.now) }
     ensures { out.new ≡ put out.old p (part_of s.now q n) }
 {
-    let at = p as usize;
-    let end = (p + n) as usize;
-    let from = q as usize;
-    let to = (q + n) as usize;
-    let part = &s[from..to];
-    let count = n as usize;
-    copies::copy_range(&mut out[at..end], part, 0, count);
+    let part = &s[q as usize..(q + n) as usize];
+    out[p as usize..(p + n) as usize].copy_from_slice(part);
 }
 
 // Puts a Long from p on.
@@ -59,14 +48,7 @@ pub fn put_long(out: &mut [u8], p: u64, x: u64)
     requires { p + 8 ≤ length out.old }
     ensures { out.new ≡ put out.old p (long x) }
 {
-    let at = p as usize;
-    let mut rest = x;
-    let mut i: usize = 0;
-    while i < 8 {
-        out[at + i] = (rest % 256) as u8;
-        rest = rest / 256;
-        i += 1;
-    }
+    out[p as usize..(p + 8) as usize].copy_from_slice(&x.to_le_bytes());
 }
 
 // ---- segments

@@ -1,12 +1,12 @@
--- Spans of a row: one whose pixels are all given, or all left, two in turn, and a whole row.
+-- Spans of a row: one whose pixels are all given, or all left, and two in turn.
 use mathlib.Core.Path.{◌≡◌, refl, sym, ap, ap₂, ◌∙◌}
 use mathlib.Core.Logic.{by_cases}
 use Prim.Native.Nat.{ℕ, ◌+◌, ◌*◌, ◌-◌, ◌≤◌, ◌<◌}
-use native.Mathlib.Nat.{mul-le-mul_right, add-zero, zero-add, sub-zero}
+use native.Mathlib.Nat.{mul-le-mul_right}
 use native.Mathlib.Decide.{dec_lt}
 use native.Mathlib.Omega.{arith}
 use mathlib.Core.List.{List}
-use mathlib.Core.Bool.{Bool, true, false, ◌&&◌, ◌||◌, and-false}
+use mathlib.Core.Bool.{Bool, true, false, ◌&&◌, ◌||◌, and-false, true≢false}
 use lib.Arith.{digits_lt}
 use lib.Dec.{ltb, leb}
 use lib.ListN.{length, get_or}
@@ -19,7 +19,9 @@ use Rattle.plane.proofs.SumLaws.{sum-ext, sum-add, count-le, count_none, count-a
 use Rattle.plane.proofs.PaintLaws.{Bytes, mark-noop, mark-ext, mark-bit, mark-bytes, mark-length, paint-length, paint-none}
 use Rattle.copies.proofs.Copies.{by-range, copied-length, copied-below, copied-in, copied-past}
 use Rattle.paint.specs.declared.Row.{Row}
-use Rattle.paint.specs.RowPainting.{valid_at, gives_pixel, row_gives, RowPainted, SpanPainted, SpanGiven}
+use Rattle.paint.specs.declared.Turn.{Turn}
+use Rattle.paint.specs.declared.Turn.TheVariants.{Plain, Quick}
+use Rattle.paint.specs.RowPainting.{valid_at, gives_pixel, row_gives, SpanPainted, SpanGiven}
 use Rattle.paint.proofs.Painting.{painted-as, paint-then, mark-then}
 
 -- the elements of a map that is lent are bytes
@@ -27,21 +29,28 @@ pub lent-bytes : (m : List ℕ) → ((k : ℕ) → Fits w8 (get_or m k 0)) → B
 lent-bytes m f k = (f k).fits
 
 -- what a turn gives is valid
-given-valid : (q v s : Bool) → gives_pixel q v s ≡ true → v ≡ true
-given-valid q true s e = refl
-given-valid q false s e = e
+given-valid : (k : Turn) (v s : Bool) → gives_pixel k v s ≡ true → v ≡ true
+given-valid Plain v s e = e
+given-valid Quick true s e = refl
+given-valid Quick false s e = e
 
 -- what it leaves sets no bit
-left-sets : (q v s : Bool) → gives_pixel q v s ≡ false → (v || s) ≡ s
-left-sets q false s e = refl
-left-sets q true true e = refl
-left-sets true true false e = e
-left-sets false true false e = e
+left-sets : (k : Turn) (v s : Bool) → gives_pixel k v s ≡ false → (v || s) ≡ s
+left-sets Plain false s e = refl
+left-sets Plain true s e = absurd (true≢false e)
+left-sets Quick false s e = refl
+left-sets Quick true true e = refl
+left-sets Quick true false e = e
+
+-- what is not valid it leaves
+pub left-invalid : (k : Turn) (v s : Bool) → v ≡ false → gives_pixel k v s ≡ false
+left-invalid Plain v s e = e
+left-invalid Quick v s e = rw e
 
 -- ---- read off a span that is painted
-module _ {d m s line d' m' : List ℕ} {row : Row} {i j g : ℕ} (o : SpanPainted d m s line row i j d' m' g) where
+module _ {d m d' m' : List ℕ} {row : Row} {i j g : ℕ} (o : SpanPainted d m row i j d' m' g) where
   pub span-given : g ≤ j - i
-  span-given = rw o.given (count-le (j - i) (λ k. row_gives m line row (i + k)))
+  span-given = rw o.given (count-le (j - i) (λ k. row_gives m row (i + k)))
 
   pub span-target : length d' ≡ length d
   span-target = ap length o.target ∙ paint-length j row.bytes _ _ d
@@ -56,31 +65,31 @@ module _ {d m s line d' m' : List ℕ} {row : Row} {i j g : ℕ} (o : SpanPainte
   pub span-behind : (p : ℕ) → j ≤ p → row.first + p < 8 * length m → bit m' (row.first + p) ≡ bit m (row.first + p)
   span-behind p l h = rw o.map (mark-bit (row.first + j) _ m (row.first + p) h ∙ rw (le-ltb (row.first + p) (row.first + j) (omega arith)))
 
-module _ {d m s line : List ℕ} {row : Row} (hb : 1 ≤ row.bytes) where
+module _ {d m : List ℕ} {row : Row} (hb : 1 ≤ row.bytes) where
   -- ---- a span whose pixels are all given
-  pub span-all : {i j : ℕ} → ((p : ℕ) → i ≤ p → p < j → row_gives m line row p ≡ true)
-      → {d' m' : List ℕ} → SpanGiven d m s row i j d' m' → SpanPainted d m s line row i j d' m' (j - i)
+  pub span-all : {i j : ℕ} → ((p : ℕ) → i ≤ p → p < j → row_gives m row p ≡ true)
+      → {d' m' : List ℕ} → SpanGiven d m row i j d' m' → SpanPainted d m row i j d' m' (j - i)
   span-all {i} {j} f g = record {
     target =
         g.target
-        ∙ painted-as hb j _ _ d _ (copied-length d s _ _)
-        (λ p q hq h. by-range i j p (λ l. copied-below d s _ _ _ h (digits_lt l hq) ∙ rw (lt-leb i p l, and-false (ltb p j)))
-        (λ l r. copied-in d s _ _ _ h (omega (arith, mul-le-mul_right row.bytes l)) (digits_lt r hq)
+        ∙ painted-as hb j _ _ d _ (copied-length d row.pixels.now _ _)
+        (λ p q hq h. by-range i j p (λ l. copied-below d row.pixels.now _ _ _ h (digits_lt l hq) ∙ rw (lt-leb i p l, and-false (ltb p j)))
+        (λ l r. copied-in d row.pixels.now _ _ _ h (omega (arith, mul-le-mul_right row.bytes l)) (digits_lt r hq)
         ∙ rw (lt-ltb p j r, le-leb i p l, f p l r))
-        (λ l. copied-past d s _ _ _ h (omega (arith, mul-le-mul_right row.bytes l)) ∙ rw (le-ltb p j l)));
+        (λ l. copied-past d row.pixels.now _ _ _ h (omega (arith, mul-le-mul_right row.bytes l)) ∙ rw (le-ltb p j l)));
     map = g.map ∙ mark-ext (row.first + j) _ _ m valid;
     given = sym (count-all (j - i) _ (λ k l. f (i + k) (omega arith) (omega arith)));
   }
     where
-      valid : (q : ℕ) → q < row.first + j → leb (row.first + i) q ≡ (leb (row.first + i) q && valid_at line row (q - row.first))
+      valid : (q : ℕ) → q < row.first + j → leb (row.first + i) q ≡ (leb (row.first + i) q && valid_at row (q - row.first))
       valid q l =
           by_cases (dec_lt q (row.first + i)) (λ c. rw (lt-leb (row.first + i) q c))
           (λ c. let p = q - row.first in
-          rw (le-leb (row.first + i) q (omega arith)) (sym (given-valid row.quick _ (bit m (row.first + p)) (f p (omega arith) (omega arith)))))
+          rw (le-leb (row.first + i) q (omega arith)) (sym (given-valid row.turn _ (bit m (row.first + p)) (f p (omega arith) (omega arith)))))
 
   module _ (h : Bytes m) where
     -- ---- a span whose pixels are all left
-    pub span_left : {i j : ℕ} → ((p : ℕ) → i ≤ p → p < j → row_gives m line row p ≡ false) → SpanPainted d m s line row i j d m 0
+    pub span_left : {i j : ℕ} → ((p : ℕ) → i ≤ p → p < j → row_gives m row p ≡ false) → SpanPainted d m row i j d m 0
     span_left {i} {j} f = record {
       target =
           sym (paint-none j row.bytes _ _ d hb
@@ -89,18 +98,18 @@ module _ {d m s line : List ℕ} {row : Row} (hb : 1 ≤ row.bytes) where
       given = sym (count_none (j - i) _ (λ k l. f (i + k) (omega arith) (omega arith)));
     }
       where
-        kept : (q : ℕ) → q < row.first + j → ((leb (row.first + i) q && valid_at line row (q - row.first)) || bit m q) ≡ bit m q
+        kept : (q : ℕ) → q < row.first + j → ((leb (row.first + i) q && valid_at row (q - row.first)) || bit m q) ≡ bit m q
         kept q l =
             by_cases (dec_lt q (row.first + i)) (λ c. rw (lt-leb (row.first + i) q c))
             (λ c.
             let p = q - row.first in
             let e : row.first + p ≡ q = omega arith in
             rw (le-leb (row.first + i) q (omega arith))
-            (rw e at (left-sets row.quick (valid_at line row p) (bit m (row.first + p)) (f p (omega arith) (omega arith)))))
+            (rw e at (left-sets row.turn (valid_at row p) (bit m (row.first + p)) (f p (omega arith) (omega arith)))))
 
     -- ---- two spans in turn
     pub span-then : {i j k : ℕ} → i ≤ j → j ≤ k → row.first + k ≤ 8 * length m → {d₁ m₁ d₂ m₂ : List ℕ} {g r : ℕ}
-        → SpanPainted d m s line row i j d₁ m₁ g → SpanPainted d₁ m₁ s line row j k d₂ m₂ r → SpanPainted d m s line row i k d₂ m₂ (g + r)
+        → SpanPainted d m row i j d₁ m₁ g → SpanPainted d₁ m₁ row j k d₂ m₂ r → SpanPainted d m row i k d₂ m₂ (g + r)
     span-then {i} {j} {k} a c l {m₁ = m₁} o q = record {
       target =
           q.target ∙ ap (paint k row.bytes _ _) o.target
@@ -112,15 +121,7 @@ module _ {d m s line : List ℕ} {row : Row} (hb : 1 ≤ row.bytes) where
     }
       where
         G : ℕ → Bool
-        G p = row_gives m line row p
+        G p = row_gives m row p
 
-        later : (p : ℕ) → j ≤ p → p < k → row_gives m₁ line row p ≡ G p
+        later : (p : ℕ) → j ≤ p → p < k → row_gives m₁ row p ≡ G p
         later p e f = rw (span-behind o p e (omega arith))
-
--- ---- a whole row
-first_on : (p : ℕ) → leb 0 p ≡ true
-first_on p = le-leb 0 p (omega arith)
-
-pub span-row : {d m s line d' m' : List ℕ} {row : Row} {n r : ℕ} → SpanPainted d m s line row 0 n d' m' r
-    → RowPainted d m s line row n d' m' r
-span-row o = record { target = simp first_on at o.target; map = simp add-zero at o.map; given = simp (sub-zero, zero-add) at o.given }

@@ -1,19 +1,34 @@
 // One row's part of a turn: by runs of the mask's bits within runs of map bits, and where runs are short, by the pixel.
 #![tactic(auto)]
 
-ghost use Rattle.std.specs.Prelude.{◌≡◌, true, ◌+◌, ◌*◌, ◌<◌, ◌≤◌, ◌^◌, length};
-ghost use Rattle.paint.specs.RowPainting.{RowRoom, RowPainted, SpanRoom, SpanBytes, SpanPainted, SpanGiven, Stepped, Open, valid_at, row_gives};
+ghost use Rattle.std.specs.Prelude.{◌≡◌, ◌+◌, ◌*◌, ◌<◌, ◌≤◌, ◌^◌, length, Some, IfSome};
+ghost use Rattle.paint.specs.declared.Turn.TheVariants.{Quick};
+ghost use Rattle.paint.specs.RowPainting.{LineRoom, RowRoom, RowPainted, SpanRoom, SpanBytes, SpanPainted, SpanGiven, Stepped, Open, valid_behind, valid_at, row_gives};
 
-// What of a row's part of a turn does not change along the row: the number of its first pixel's map bit, the bytes of a pixel, whether the tile is
-// masked, how many columns the mask's line has, which of them is the first pixel's, and whether the turn is quick.
+// The two kinds of turn: the plain one gives a tile's valid pixels, the quick one those of them that are not yet covered.
 #[derive(Clone, Copy)]
-pub struct Row {
-    pub first: usize,
-    pub bytes: usize,
-    pub masked: bool,
+pub enum Turn {
+    Plain,
+    Quick,
+}
+
+// A row's line of the tile's mask: its bits, how many columns it has, and which of them is the row's first pixel's.
+#[derive(Clone, Copy)]
+pub struct MaskLine<'a> {
+    pub bits: &'a [u8],
     pub columns: usize,
     pub column: usize,
-    pub quick: bool,
+}
+
+// What of a row's part of a turn does not change along the row: the number of its first pixel's map bit, the bytes of a pixel, its pixels, the
+// mask's line where the tile is masked, and the kind of turn.
+#[derive(Clone, Copy)]
+pub struct Row<'a> {
+    pub first: usize,
+    pub bytes: usize,
+    pub pixels: &'a [u8],
+    pub mask: Option<MaskLine<'a>>,
+    pub turn: Turn,
 }
 
 // The pixel behind a step's last, and how many pixels the step gave.
@@ -23,83 +38,24 @@ pub struct Step {
     pub given: usize,
 }
 
-// ---- by the pixel
-
-// Whether pixel i of the row is valid: it has a column in the mask's line, and the column's bit is one; with no mask it is.
-fn valid_at(line: &[u8], row: Row, i: usize) -> bool
-    requires { (row.column + i < 2 ^ 64) × (row.masked ≡ true → row.columns ≤ 8 * length line.now) }
-    ensures { result ≡ valid_at line.now row i }
-{
-    if row.masked {
-        let x = row.column + i;
-        if x < row.columns {
-            return bits::bit_at(line, x);
-        }
-        return false;
+impl MaskLine<'_> {
+    // Whether pixel i of the row is valid: the line has its column, and the column's bit is one.
+    fn valid_at(&self, i: usize) -> bool
+        requires { LineRoom self.now i }
+        ensures { result ≡ valid_behind (Some self.now) i }
+    {
+        let x = self.column + i;
+        x < self.columns && bits::bit_at(self.bits, x)
     }
-    true
-}
 
-// Whether a turn gives pixel i of the row.
-fn is_given(map: &[u8], line: &[u8], row: Row, i: usize) -> bool
-    requires { (row.first + i < 8 * length map.now) × (row.first + i < 2 ^ 64) × (row.column + i < 2 ^ 64) × (row.masked ≡ true → row.columns ≤ 8 * length line.now) }
-    ensures { result ≡ row_gives map.now line.now row i }
-{
-    if valid_at(line, row, i) {
-        if row.quick {
-            return !bits::bit_at(map, row.first + i);
-        }
-        return true;
+    // The end of the pixels from i up to j that have a column in the line.
+    fn columns_end(&self, i: usize, j: usize) -> usize
+        requires { i ≤ j }
+        ensures { (i ≤ result) × (result ≤ j) × (i < result → self.now.column + result ≤ self.now.columns) × (result < j → self.now.columns ≤ self.now.column + result) }
+    {
+        self.columns.saturating_sub(self.column).clamp(i, j)
     }
-    false
 }
-
-// Pixel i of the row, whose first byte is number a. The result is how many pixels it gives, one or none.
-fn paint_pixel(
-    dst: &mut [u8],
-    map: &mut [u8],
-    src: &[u8],
-    line: &[u8],
-    row: Row,
-    i: usize,
-    a: usize,
-) -> usize
-    requires { RowRoom dst.old map.old src.now line.now row (i + 1) × (a ≡ i * row.bytes) }
-    ensures { SpanPainted dst.old map.old src.now line.now row i (i + 1) dst.new map.new result }
-{
-    if is_given(map, line, row, i) {
-        copies::copy_few(dst, src, a, a + row.bytes);
-        bits::set_bit(map, row.first + i);
-        return 1;
-    }
-    0
-}
-
-// The pixels from i up to j one by one.
-fn paint_pixels(
-    dst: &mut [u8],
-    map: &mut [u8],
-    src: &[u8],
-    line: &[u8],
-    row: Row,
-    i: usize,
-    j: usize,
-) -> usize
-    requires { SpanRoom dst.old map.old src.now line.now row i j }
-    ensures { SpanPainted dst.old map.old src.now line.now row i j dst.new map.new result }
-{
-    let mut given: usize = 0;
-    let mut a = i * row.bytes;
-    let mut k = i;
-    while k < j {
-        given += paint_pixel(dst, map, src, line, row, k, a);
-        a += row.bytes;
-        k += 1;
-    }
-    given
-}
-
-// ---- by runs
 
 // The end of the pixels from i up to j that are painted one by one where the run from bit p on is short: about two bytes' bits, to a byte's end.
 // Any end past i would do.
@@ -107,187 +63,193 @@ fn short_end(i: usize, j: usize, p: usize) -> usize
     requires { i < j }
     ensures { (i < result) × (result ≤ j) }
 {
-    let near = 16 - p % 8;
-    if j - i <= near {
-        return j;
-    }
-    i + near
+    i + (j - i).min(16 - p % 8)
 }
 
-// The pixels from i up to j, all of them given.
-fn give_span(dst: &mut [u8], map: &mut [u8], src: &[u8], row: Row, i: usize, j: usize)
-    requires { SpanBytes dst.old map.old src.now row i j }
-    ensures { SpanGiven dst.old map.old src.now row i j dst.new map.new }
-{
-    copies::copy_range(dst, src, i * row.bytes, j * row.bytes);
-    bits::set_range(map, row.first + i, row.first + j);
+impl Row<'_> {
+    // ---- by the pixel
+
+    // Whether pixel i of the row is valid; with no mask it is.
+    fn valid_at(&self, i: usize) -> bool
+        requires { IfSome self.now.mask (λ k. LineRoom k i) }
+        ensures { result ≡ valid_at self.now i }
+    {
+        match self.mask {
+            Some(mask) => mask.valid_at(i),
+            None => true,
+        }
+    }
+
+    // Whether a turn gives pixel i of the row.
+    fn is_given(&self, map: &[u8], i: usize) -> bool
+        requires { (self.now.first + i < 8 * length map.now) × (self.now.first + i < 2 ^ 64) × IfSome self.now.mask (λ k. LineRoom k i) }
+        ensures { result ≡ row_gives map.now self.now i }
+    {
+        self.valid_at(i)
+            && match self.turn {
+                Turn::Plain => true,
+                Turn::Quick => !bits::bit_at(map, self.first + i),
+            }
+    }
+
+    // Pixel i of the row, whose first byte is number a. The result is how many pixels it gives, one or none.
+    fn paint_pixel(&self, dst: &mut [u8], map: &mut [u8], i: usize, a: usize) -> usize
+        requires { RowRoom dst.old map.old self.now (i + 1) × (a ≡ i * self.now.bytes) }
+        ensures { SpanPainted dst.old map.old self.now i (i + 1) dst.new map.new result }
+    {
+        if self.is_given(map, i) {
+            copies::copy_few(dst, self.pixels, a, a + self.bytes);
+            bits::set_bit(map, self.first + i);
+            1
+        } else {
+            0
+        }
+    }
+
+    // The pixels from i up to j one by one. The row is a copy, which no write to the bytes can change, and the first byte is counted along: with the
+    // product at each pixel random bits take 11 % longer (1 byte a pixel, 4,096 x 4,096: 171 ms against 153).
+    fn paint_pixels(&self, dst: &mut [u8], map: &mut [u8], i: usize, j: usize) -> usize
+        requires { SpanRoom dst.old map.old self.now i j }
+        ensures { SpanPainted dst.old map.old self.now i j dst.new map.new result }
+    {
+        let row = *self;
+        let mut given = 0;
+        let mut a = i * row.bytes;
+        for k in i..j {
+            given += row.paint_pixel(dst, map, k, a);
+            a += row.bytes;
+        }
+        given
+    }
+
+    // ---- by runs
+
+    // The pixels from i up to j, all of them given.
+    fn give_span(&self, dst: &mut [u8], map: &mut [u8], i: usize, j: usize)
+        requires { SpanBytes dst.old map.old self.now i j }
+        ensures { SpanGiven dst.old map.old self.now i j dst.new map.new }
+    {
+        copies::copy_range(dst, self.pixels, i * self.bytes, j * self.bytes);
+        bits::set_range(map, self.first + i, self.first + j);
+    }
+
+    // A step along open pixels from i up to j of a masked row, all of which have a column in the mask: a run of valid ones, of others, or a few by
+    // the pixel.
+    fn step_mask(&self, mask: MaskLine, dst: &mut [u8], map: &mut [u8], i: usize, j: usize) -> Step
+        requires { (i < j) × SpanRoom dst.old map.old self.now i j × (self.now.mask ≡ Some mask) × Open map.old self.now i j × (mask.column + j ≤ mask.columns) }
+        ensures { Stepped dst.old map.old self.now i j dst.new map.new result.next result.given }
+    {
+        let x = mask.column;
+        let at = x + i;
+        let end = x + j;
+        let valid = runs::run_end(mask.bits, at, end, true);
+        if 8 <= valid - at {
+            let next = valid - x;
+            self.give_span(dst, map, i, next);
+            return Step {
+                next,
+                given: next - i,
+            };
+        }
+        let other = runs::run_end(mask.bits, at, end, false);
+        if 8 <= other - at {
+            return Step {
+                next: other - x,
+                given: 0,
+            };
+        }
+        let next = short_end(i, j, at);
+        let given = self.paint_pixels(dst, map, i, next);
+        Step { next, given }
+    }
+
+    // Open pixels from i up to j of a masked row. The steps are of any length, and each is of the pixels that the last one left: no range, and no
+    // iterator, has them.
+    fn paint_masked(
+        &self,
+        mask: MaskLine,
+        dst: &mut [u8],
+        map: &mut [u8],
+        i: usize,
+        j: usize,
+    ) -> usize
+        requires { SpanRoom dst.old map.old self.now i j × (self.now.mask ≡ Some mask) × Open map.old self.now i j }
+        ensures { SpanPainted dst.old map.old self.now i j dst.new map.new result }
+    {
+        let end = mask.columns_end(i, j);
+        let mut given = 0;
+        let mut k = i;
+        while k < end {
+            let s = self.step_mask(mask, dst, map, k, end);
+            given += s.given;
+            k = s.next;
+        }
+        given
+    }
+
+    // Open pixels from i up to j: all of them, or behind a mask those that are valid.
+    fn paint_open(&self, dst: &mut [u8], map: &mut [u8], i: usize, j: usize) -> usize
+        requires { SpanRoom dst.old map.old self.now i j × Open map.old self.now i j }
+        ensures { SpanPainted dst.old map.old self.now i j dst.new map.new result }
+    {
+        match self.mask {
+            Some(mask) => self.paint_masked(mask, dst, map, i, j),
+            None => {
+                self.give_span(dst, map, i, j);
+                j - i
+            }
+        }
+    }
+
+    // A quick turn's step along the pixels from i up to j: a run of uncovered ones, of covered ones, or a few by the pixel.
+    fn step_map(&self, dst: &mut [u8], map: &mut [u8], i: usize, j: usize) -> Step
+        requires { (i < j) × SpanRoom dst.old map.old self.now i j × (self.now.turn ≡ Quick) }
+        ensures { Stepped dst.old map.old self.now i j dst.new map.new result.next result.given }
+    {
+        let first = self.first;
+        let at = first + i;
+        let end = first + j;
+        let uncovered = runs::run_end(map, at, end, false);
+        if 8 <= uncovered - at {
+            let next = uncovered - first;
+            let given = self.paint_open(dst, map, i, next);
+            return Step { next, given };
+        }
+        let covered = runs::run_end(map, at, end, true);
+        if 8 <= covered - at {
+            return Step {
+                next: covered - first,
+                given: 0,
+            };
+        }
+        let next = short_end(i, j, at);
+        let given = self.paint_pixels(dst, map, i, next);
+        Step { next, given }
+    }
+
+    // A quick turn's row, in steps of any length.
+    fn paint_uncovered(&self, dst: &mut [u8], map: &mut [u8], n: usize) -> usize
+        requires { RowRoom dst.old map.old self.now n × (self.now.turn ≡ Quick) }
+        ensures { SpanPainted dst.old map.old self.now 0 n dst.new map.new result }
+    {
+        let mut given = 0;
+        let mut k = 0;
+        while k < n {
+            let s = self.step_map(dst, map, k, n);
+            given += s.given;
+            k = s.next;
+        }
+        given
+    }
 }
 
-// A step along open pixels from i up to j of a masked row, all of which have a column in the mask: a run of valid ones, of others, or a few by the pixel.
-fn step_mask(
-    dst: &mut [u8],
-    map: &mut [u8],
-    src: &[u8],
-    line: &[u8],
-    row: Row,
-    i: usize,
-    j: usize,
-) -> Step
-    requires { (i < j) × SpanRoom dst.old map.old src.now line.now row i j × (row.masked ≡ true) × Open map.old row i j × (row.column + j ≤ row.columns) }
-    ensures { Stepped dst.old map.old src.now line.now row i j dst.new map.new result.next result.given }
+// One row's part of a turn: dst is the row's stretch of the target, of n pixels. The result is how many pixels it gives.
+pub fn paint_row(dst: &mut [u8], map: &mut [u8], row: &Row, n: usize) -> usize
+    requires { RowRoom dst.old map.old row.now n }
+    ensures { RowPainted dst.old map.old row.now n dst.new map.new result }
 {
-    let x = row.column;
-    let at = x + i;
-    let end = x + j;
-    let valid = runs::run_end(line, at, end, true);
-    if 8 <= valid - at {
-        let next = valid - x;
-        give_span(dst, map, src, row, i, next);
-        return Step {
-            next,
-            given: next - i,
-        };
+    match row.turn {
+        Turn::Quick => row.paint_uncovered(dst, map, n),
+        Turn::Plain => row.paint_open(dst, map, 0, n),
     }
-    let other = runs::run_end(line, at, end, false);
-    if 8 <= other - at {
-        return Step {
-            next: other - x,
-            given: 0,
-        };
-    }
-    let next = short_end(i, j, at);
-    let given = paint_pixels(dst, map, src, line, row, i, next);
-    Step { next, given }
-}
-
-// The end of the pixels from i up to j that have a column in the mask.
-fn columns_end(row: Row, i: usize, j: usize) -> usize
-    requires { (i ≤ j) × (row.column + j < 2 ^ 64) }
-    ensures { (i ≤ result) × (result ≤ j) × (i < result → row.column + result ≤ row.columns) × (result < j → row.columns ≤ row.column + result) }
-{
-    if row.columns <= row.column + i {
-        return i;
-    }
-    if row.column + j <= row.columns {
-        return j;
-    }
-    row.columns - row.column
-}
-
-// Open pixels from i up to j of a masked row.
-fn paint_masked(
-    dst: &mut [u8],
-    map: &mut [u8],
-    src: &[u8],
-    line: &[u8],
-    row: Row,
-    i: usize,
-    j: usize,
-) -> usize
-    requires { SpanRoom dst.old map.old src.now line.now row i j × (row.masked ≡ true) × Open map.old row i j }
-    ensures { SpanPainted dst.old map.old src.now line.now row i j dst.new map.new result }
-{
-    let end = columns_end(row, i, j);
-    let mut given: usize = 0;
-    let mut k = i;
-    while k < end {
-        let s = step_mask(dst, map, src, line, row, k, end);
-        given += s.given;
-        k = s.next;
-    }
-    given
-}
-
-// Open pixels from i up to j: all of them, or behind a mask those that are valid.
-fn paint_open(
-    dst: &mut [u8],
-    map: &mut [u8],
-    src: &[u8],
-    line: &[u8],
-    row: Row,
-    i: usize,
-    j: usize,
-) -> usize
-    requires { SpanRoom dst.old map.old src.now line.now row i j × Open map.old row i j }
-    ensures { SpanPainted dst.old map.old src.now line.now row i j dst.new map.new result }
-{
-    if row.masked {
-        return paint_masked(dst, map, src, line, row, i, j);
-    }
-    give_span(dst, map, src, row, i, j);
-    j - i
-}
-
-// A quick turn's step along the pixels from i up to j: a run of uncovered ones, of covered ones, or a few by the pixel.
-fn step_map(
-    dst: &mut [u8],
-    map: &mut [u8],
-    src: &[u8],
-    line: &[u8],
-    row: Row,
-    i: usize,
-    j: usize,
-) -> Step
-    requires { (i < j) × SpanRoom dst.old map.old src.now line.now row i j × (row.quick ≡ true) }
-    ensures { Stepped dst.old map.old src.now line.now row i j dst.new map.new result.next result.given }
-{
-    let first = row.first;
-    let at = first + i;
-    let end = first + j;
-    let uncovered = runs::run_end(map, at, end, false);
-    if 8 <= uncovered - at {
-        let next = uncovered - first;
-        let given = paint_open(dst, map, src, line, row, i, next);
-        return Step { next, given };
-    }
-    let covered = runs::run_end(map, at, end, true);
-    if 8 <= covered - at {
-        return Step {
-            next: covered - first,
-            given: 0,
-        };
-    }
-    let next = short_end(i, j, at);
-    let given = paint_pixels(dst, map, src, line, row, i, next);
-    Step { next, given }
-}
-
-// A quick turn's row.
-fn paint_uncovered(
-    dst: &mut [u8],
-    map: &mut [u8],
-    src: &[u8],
-    line: &[u8],
-    row: Row,
-    n: usize,
-) -> usize
-    requires { RowRoom dst.old map.old src.now line.now row n × (row.quick ≡ true) }
-    ensures { SpanPainted dst.old map.old src.now line.now row 0 n dst.new map.new result }
-{
-    let mut given: usize = 0;
-    let mut k: usize = 0;
-    while k < n {
-        let s = step_map(dst, map, src, line, row, k, n);
-        given += s.given;
-        k = s.next;
-    }
-    given
-}
-
-// One row's part of a turn: dst is the row's stretch of the target, src its n pixels, line the mask's line. The result is how many pixels it gives.
-pub fn paint_row(
-    dst: &mut [u8],
-    map: &mut [u8],
-    src: &[u8],
-    line: &[u8],
-    row: Row,
-    n: usize,
-) -> usize
-    requires { RowRoom dst.old map.old src.now line.now row n }
-    ensures { RowPainted dst.old map.old src.now line.now row n dst.new map.new result }
-{
-    if row.quick {
-        return paint_uncovered(dst, map, src, line, row, n);
-    }
-    paint_open(dst, map, src, line, row, 0, n)
 }

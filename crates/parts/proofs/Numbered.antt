@@ -6,9 +6,10 @@ use mathlib.Core.Bool.{Bool, true, false, cond}
 use native.Mathlib.Omega.{arith}
 use lib.ListN.{length}
 use lib.Dec.{eqb, leb}
+use Rattle.std.specs.Prelude.{Err}
 use borrow.Author.Tests.{leb-false, eq-eqb, ne_eqb}
 use Rattle.format.specs.Scan.{Scan, scan_of, block_file}
-use Rattle.format.specs.Checks.{Check, row, first}
+use Rattle.format.specs.Checks.{Verdict, Accepted, Refused, Check, row, first}
 use Rattle.format.specs.File.{metadata_position, attachment_directory_position}
 use Rattle.format.specs.Entry.{dimension_count, dimension_place, file_position}
 use Rattle.format.specs.Directory.{tile_count, entry_place}
@@ -17,8 +18,8 @@ use Rattle.format.specs.Rules.{checks, verdict, AcceptedFile, tile_verdict, atta
 use Rattle.format.specs.Records.{tile_entry, tile_file, tile_position, dimension_verdict, span, xml_span, xml_attachment_span}
 use Rattle.format.specs.declared.Release.{Release}
 use Rattle.format.specs.declared.Span.{Span}
-use Rattle.format.specs.declared.Verdict.{Verdict}
-use Rattle.format.specs.declared.Verdict.TheVariants.{Accepted, Refused}
+use Rattle.format.specs.declared.Fault.TheVariants as Fault
+use Rattle.format.specs.declared.Refusal.{Refusal}
 use Rattle.format.specs.Answers.{VerdictAnswered}
 use Rattle.format.proofs.Firsts.{first-both, first-passed}
 use Rattle.format.proofs.Answering.{verdict-answered, accepted}
@@ -28,25 +29,25 @@ use Rattle.subblocks.proofs.PartLaws.{listed_in}
 use Rattle.entries.proofs.EntryLaws.{dimension-within}
 use Rattle.judge.proofs.AcceptedFile.{tiled, described, Attached, attached, tiled-file, accepted-under}
 
--- ---- a row 24 behind other rows, of which v was answered
+-- ---- the row of a number that is not there behind other rows, of which v was answered
 
 abbrev pub Asked : List Check → Bool → List Check
-Asked rows none = rows ++ (row 24 0 none ∷ [])
+Asked rows none = rows ++ (row Fault.NoSuchNumber 0 none ∷ [])
 
 module _ (rows : List Check) (none : Bool) (v : Verdict) (a : VerdictAnswered (first rows) v) where
-  pub refused-before : (m p : ℕ) → v ≡ Refused m p → VerdictAnswered (first (Asked rows none)) (Refused m p)
-  refused-before m p h = verdict-answered (then-stop v rows (row 24 0 none ∷ []) m p a.answer_is h)
+  pub refused-before : (e : Refusal) → v ≡ Err e → VerdictAnswered (first (Asked rows none)) (Err e)
+  refused-before e h = verdict-answered (then-stop v rows (row Fault.NoSuchNumber 0 none ∷ []) e a.answer_is h)
 
-  pub no_such : v ≡ Accepted → none ≡ true → VerdictAnswered (first (Asked rows none)) (Refused 24 0)
-  no_such h t = verdict-answered (then_next v (Refused 24 0) rows (row 24 0 none ∷ []) a.answer_is h (rw t))
+  pub no_such : v ≡ Accepted → none ≡ true → VerdictAnswered (first (Asked rows none)) (Refused Fault.NoSuchNumber 0)
+  no_such h t = verdict-answered (then_next v (Refused Fault.NoSuchNumber 0) rows (row Fault.NoSuchNumber 0 none ∷ []) a.answer_is h (rw t))
 
   pub is-there : v ≡ Accepted → none ≡ false → VerdictAnswered (first (Asked rows none)) Accepted
-  is-there h t = verdict-answered (then_next v Accepted rows (row 24 0 none ∷ []) a.answer_is h (rw t))
+  is-there h t = verdict-answered (then_next v Accepted rows (row Fault.NoSuchNumber 0 none ∷ []) a.answer_is h (rw t))
 
 asked-both : (rows : List Check) (none : Bool) → first (Asked rows none) ≡ Accepted → (first rows ≡ Accepted) × (none ≡ false)
 asked-both rows none h =
-    let both = first-both rows (row 24 0 none ∷ []) h in
-    (both.0, (first-passed none 24 0 Accepted both.1).0)
+    let both = first-both rows (row Fault.NoSuchNumber 0 none ∷ []) h in
+    (both.0, (first-passed none _ Accepted both.1).0)
 
 -- ---- tiles
 
@@ -180,8 +181,13 @@ module _ (bs : List ℕ) (a : AcceptedFile bs) (n : ℕ) (l : n < attachment_cou
   pub data-in : (q : ℕ) → q ≡ annex_position bs n → q + 288 + attachment_data_size bs q ≤ length bs
   data-in q i = rw i (omega (arith, annexed.room_in, annexed.fits))
 
-pub annex-is : (bs : List ℕ) (n t e : ℕ) → t ≡ attachment_directory_position bs → e ≡ attachment_entry t n → e ≡ annex_entry bs n
-annex-is bs n t e i j = j ∙ rw i
+-- the attachment directory was found at t, its entry at e, itself at q
+module _ (bs : List ℕ) (n t e : ℕ) (i : t ≡ attachment_directory_position bs) (j : e ≡ attachment_entry t n) where
+  pub annex-is : e ≡ annex_entry bs n
+  annex-is = j ∙ rw i
+
+  pub annex-at : (q : ℕ) → q ≡ attachment_position bs e → q ≡ annex_position bs n
+  annex-at q k = k ∙ rw annex-is
 
 -- ---- the metadata segment
 

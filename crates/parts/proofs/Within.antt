@@ -1,11 +1,11 @@
 -- Every stretch that is handed out lies in the file, whatever the file and the number. Assumes nothing.
-use Prim.Native.Nat.{ℕ, ◌+◌, ◌≤◌}
+use Prim.Native.Nat.{ℕ}
 use mathlib.Core.Path.{◌≡◌, refl}
 use mathlib.Core.List.{List}
 use mathlib.Core.Bool.{Bool, true, false, cond}
 use native.Mathlib.Omega.{arith}
-use lib.ListN.{length}
 use denote.Ref.{Bor}
+use Rattle.std.specs.Prelude.{Result, Ok, Err}
 use lib.Dec.{eqb}
 use borrow.Author.Tests.{eqb-false}
 use Rattle.format.specs.Scan.{Scan, scan_of}
@@ -14,31 +14,28 @@ use Rattle.format.specs.Rules.{verdict, tile_verdict, attachment_verdict}
 use Rattle.format.specs.Records.{span, span_if, tile_entry, tile_file, tile_position, metadata_span, pixels_span, attachment_span, tile_pixels, tile_metadata}
 use Rattle.format.specs.Records.{tile_attachment}
 use Rattle.format.specs.Records.{attachment_data_span, attachment_data, xml_span, xml_attachment_span, common_xml, common_attachment}
-use Rattle.format.specs.Answers.{SpanAnswered, span_in}
+use Rattle.format.specs.Answers.{SpanAnswered, no_span}
 use Rattle.format.specs.Views.{View}
 use Rattle.format.specs.declared.Release.{Release}
-use Rattle.format.specs.declared.Verdict.{Verdict}
-use Rattle.format.specs.declared.Verdict.TheVariants.{Accepted, Refused}
+use Rattle.format.specs.Checks.{Verdict, Accepted, value_in}
+use Rattle.format.specs.declared.Refusal.{Refusal}
 use Rattle.format.specs.declared.Span.{Span}
-use Rattle.format.specs.declared.SpanAnswer.{SpanAnswer}
 use Rattle.subblocks.proofs.PartLaws.{Laid, filled_in}
 use Rattle.judge.proofs.AcceptedFile.{accepted-under}
+use Rattle.parts.specs.Within.{Within}
 use Rattle.parts.proofs.Numbered.{tile-there, annex_position, annex-there, data-in, xml-in}
 
-abbrev pub Within : List ℕ → Span → Type 0
-Within bs s = s.start + s.length ≤ length bs
-
 pub span-within : (bs : List ℕ) (v : Verdict) (s : Span) → (v ≡ Accepted → Within bs s) → Within bs (span_if v s)
-span-within bs Accepted s h = h refl
-span-within bs (Refused m p) s h = omega arith
+span-within bs (Ok _) s h = h refl
+span-within bs (Err e) s h = omega arith
 
--- the stretch r that an answer a for the stretch s has, and its view
-module _ {v : Verdict} {s r : Span} {a : SpanAnswer} (h : SpanAnswered v s a) (e : r ≡ span_in a) where
-  pub answered-within : (bs : List ℕ) → Within bs s → Within bs r
-  answered-within bs w = rw (e, h.span_is) w
+-- the stretch that an answer a for the stretch s has, and its view
+module _ {v : Verdict} {s : Span} {a : Result Span Refusal} (h : SpanAnswered v s a) where
+  pub answered-within : (bs : List ℕ) → Within bs s → Within bs (value_in no_span a)
+  answered-within bs w = rw h.span_is w
 
-  pub answered-view : {whole part : Bor (List ℕ)} → View whole r part → View whole s part
-  answered-view w = rw (← h.span_is, ← e) w
+  pub answered-view : {whole part : Bor (List ℕ)} → View whole (value_in no_span a) part → View whole s part
+  answered-view w = rw (← h.span_is) w
 
 -- the parts of tile n lie in the file that its entry names
 module _ (sc : Scan) (n : ℕ) where

@@ -8,7 +8,7 @@ use Rattle.format.specs.Scan.{Scan}
 use Rattle.format.specs.Checks.{Check, first}
 use Rattle.format.specs.Directory.{tile_count, entry_place, directory_bad}
 use Rattle.format.specs.Rules.{checks, verdict}
-use Rattle.format.specs.declared.Verdict.TheVariants.{Accepted}
+use Rattle.format.specs.Checks.{Accepted}
 use Rattle.format.proofs.Below.{none}
 use Rattle.format.proofs.Firsts.{first-both, first-pass, passed}
 use Rattle.format.proofs.FileRows.{directory-ok}

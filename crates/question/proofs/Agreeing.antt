@@ -8,7 +8,7 @@ use borrow.Author.Tests.{ltb-true, lt-ltb}
 use Rattle.format.specs.Entry.{pixel_type}
 use Rattle.format.specs.Checks.{first}
 use Rattle.format.specs.Directory.{tile_count, entry_place}
-use Rattle.format.specs.declared.Verdict.TheVariants.{Accepted}
+use Rattle.format.specs.Checks.{Accepted}
 use Rattle.format.proofs.Below.{and_both}
 use Rattle.format.proofs.Firsts.{passed, rows-each, rows_all}
 use Rattle.plane.specs.declared.Rect.{Rect}

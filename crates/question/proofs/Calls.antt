@@ -1,11 +1,10 @@
 -- A call by its verdict: what is so where it is accepted, and what it then answers and leaves. Assumes nothing.
 use Prim.Native.Nat.{ℕ}
-use mathlib.Core.Path.{◌≡◌, refl}
+use mathlib.Core.Path.{◌≡◌}
 use mathlib.Core.List.{List}
 use lib.ListN.{length}
 use Rattle.format.specs.Directory.{tile_count}
-use Rattle.format.specs.declared.Verdict.{Verdict}
-use Rattle.format.specs.declared.Verdict.TheVariants.{Accepted, Refused}
+use Rattle.format.specs.Checks.{Accepted}
 use Rattle.plane.specs.Paint.{ones}
 use Rattle.plane.specs.Tiles.{Ranked, area}
 use Rattle.plane.specs.Turns.{Kind}
@@ -19,11 +18,6 @@ use Rattle.question.specs.Demand3.{after}
 use Rattle.question.proofs.Ranks.{tiles-ranked}
 use Rattle.question.proofs.Asking.{window-ok, pixel-ok, lent_ok}
 use Rattle.question.proofs.Accepts.{call_ok, few-tiles}
-
--- a verdict is one of the two
-pub decide : {A : Type 0} (v : Verdict) → (v ≡ Accepted → A) → ((n p : ℕ) → v ≡ Refused n p → A) → A
-decide Accepted f g = f refl
-decide (Refused n p) f g = g n p refl
 
 module _ (a : Asked) (t m : List ℕ) (e : call_verdict a (length t) (length m) ≡ Accepted) where
   -- ---- what was asked and lent

@@ -2,6 +2,7 @@
 use Prim.Native.Nat.{ℕ, ◌+◌}
 use mathlib.Core.Path.{refl, sym, ap, ap₂, ◌∙◌, subst₂}
 use lib.ListN.{length}
+use Rattle.format.proofs.Firsts.{by-verdict}
 use Rattle.plane.specs.Paint.{ones}
 use Rattle.plane.specs.Tiles.{area}
 use Rattle.plane.specs.Turns.{Painting}
@@ -9,7 +10,7 @@ use Rattle.plane.specs.Cuts.{fore, rear, SamePixels}
 use Rattle.question.specs.Call.{call_verdict, asked_window, asked_bytes, answer, target_after, map_after, number_in, place_in, covered_in}
 use Rattle.question.specs.Demand3.{AllCalls, Agree, fore_request, rear_request}
 use Rattle.question.proofs.Accepts.{call_ok}
-use Rattle.question.proofs.Calls.{decide, proper, room, ranked, runs, after_is, covered-is}
+use Rattle.question.proofs.Calls.{proper, room, ranked, runs, after_is, covered-is}
 use Rattle.question.proofs.Halves.{fore-half, rear-half, rear-int32, half-accepted, half_room, half-after, half-covered}
 
 pub all-calls : AllCalls
@@ -19,17 +20,17 @@ all-calls a left top t m =
     let w = asked_window a in
     let b = asked_bytes a in
     record {
-      same_number = decide v (λ e. rw e) (λ n p e. rw e);
-      same_place = decide v (λ e. rw e) (λ n p e. rw e);
-      same_covered = decide v (λ e. rw e (ap (ones (area w)) ((runs a t m e).agree w t m (room a t m e)).1)) (λ n p e. rw e);
-      same_target = decide v (λ e. rw e ((runs a t m e).agree w t m (room a t m e)).0) (λ n p e. rw e);
-      same_map = decide v (λ e. rw e ((runs a t m e).agree w t m (room a t m e)).1) (λ n p e. rw e);
-      refused = λ n p e k. rw e (refl, refl, refl, refl, refl, refl);
+      same_number = by-verdict v (λ e. rw e) (λ f e. rw e);
+      same_place = by-verdict v (λ e. rw e) (λ f e. rw e);
+      same_covered = by-verdict v (λ e. rw e (ap (ones (area w)) ((runs a t m e).agree w t m (room a t m e)).1)) (λ f e. rw e);
+      same_target = by-verdict v (λ e. rw e ((runs a t m e).agree w t m (room a t m e)).0) (λ f e. rw e);
+      same_map = by-verdict v (λ e. rw e ((runs a t m e).agree w t m (room a t m e)).1) (λ f e. rw e);
+      refused = λ f p e k. rw e (refl, refl, refl, refl, refl, refl);
       accepted = λ e k.
           let d = runs a t m e in
           let r = room a t m e in
           rw e (refl, d.plane k w t m r, refl, d.covered-is k w t m r, d.stores k w t m);
-      quick_stores = decide v (λ e. rw e ((runs a t m e).quick_stores w t m (room a t m e))) (λ n p e. rw e);
+      quick_stores = by-verdict v (λ e. rw e ((runs a t m e).quick_stores w t m (room a t m e))) (λ f e. rw e);
       plain_stores = λ e. rw e ((runs a t m e).plain_stores w t m);
       ranked = ranked a t m;
       runs = runs a t m;

@@ -6,7 +6,7 @@ use native.Mathlib.Omega.{arith}
 use lib.ListN.{length}
 use Rattle.format.specs.Entry.{pixel_bytes}
 use Rattle.format.specs.Directory.{entry_place}
-use Rattle.format.specs.declared.Verdict.TheVariants.{Accepted}
+use Rattle.format.specs.Checks.{Accepted}
 use Rattle.plane.specs.Paint.{ones}
 use Rattle.plane.specs.Tiles.{Tile, area}
 use Rattle.plane.specs.Turns.{Painting, Kind, compose}

@@ -1,13 +1,12 @@
 -- A whole call of a composer: its verdict, its answer, and what the lent target and map hold in the end.
-use Rattle.std.specs.Prelude.{ℕ, ◌≡◌, List, ◌∷◌, ◌++◌, Bool, length, ℤ}
+use Rattle.std.specs.Prelude.{ℕ, ◌≡◌, List, ◌∷◌, ◌++◌, Bool, length, ℤ, Result, Ok, Err}
 use Rattle.format.specs.Scan.{Scan}
 use Rattle.format.specs.Choice.{Choice}
-use Rattle.format.specs.Checks.{row, first, if_accepted, number_of, place_of}
+use Rattle.format.specs.Checks.{Verdict, row, first, if_accepted, number_of, place_of, answer_if, verdict_in}
 use Rattle.format.specs.Entry.{pixel_bytes}
 use Rattle.format.specs.Directory.{tile_count}
 use Rattle.format.specs.Rules.{checks}
-use Rattle.format.specs.declared.Verdict.{Verdict}
-use Rattle.format.specs.declared.Verdict.TheVariants as Is
+use Rattle.format.specs.declared.Refusal.{Refusal}
 use Rattle.plane.specs.Paint.{ones}
 use Rattle.plane.specs.Tiles.{Tile, area}
 use Rattle.plane.specs.Turns.{Painting, Kind, compose}
@@ -16,8 +15,8 @@ use Rattle.selection.specs.Select.{chooses}
 use Rattle.tiles.specs.FileTile.{tiles_below}
 use Rattle.question.specs.Question.{masks_on, request_window, ask_rows, agree_rows}
 use Rattle.question.specs.declared.WindowRequest.{WindowRequest}
-use Rattle.question.specs.declared.Composed.{Composed}
-use Rattle.question.specs.declared.Composed.TheVariants as Ans
+use Rattle.question.specs.declared.Counts.{Counts}
+use Rattle.format.specs.declared.Fault.TheVariants as Fault
 
 -- what a call is given, the lent target and map aside
 pub record Asked : Type 0 where
@@ -49,7 +48,7 @@ lending_verdict a target map short =
     first
     (checks a.scan ++
     (ask_rows a.request a.background target map ++
-    (row 22 0 short ∷
+    (row Fault.LentTooShort 0 short ∷
     agree_rows a.scan.file (chosen a) (request_window a.request) a.request.pixel_type)))
 
 -- the window, bytes a pixel, and the selected tiles
@@ -68,16 +67,13 @@ painted k a t m = compose k (asked_window a) (asked_bytes a) a.background (selec
 
 -- ---- the answer
 
--- by the verdict: the covered count, which is the map's ones, and the store count; or the refusal
-abbrev pub answer_if : Verdict → ℕ → ℕ → Composed
-answer_if Is.Accepted covered stored = Ans.Done covered stored
-answer_if (Is.Refused n p) covered stored = Ans.Refused n p
+abbrev pub counts : ℕ → ℕ → Counts
+counts covered stored = record { covered = covered; stored = stored }
 
-unfoldable pub answer : Kind → Asked → List ℕ → List ℕ → Composed
+-- by the verdict: the covered count, which is the map's ones, and the store count; or the refusal
+unfoldable pub answer : Kind → Asked → List ℕ → List ℕ → Result Counts Refusal
 answer k a t m =
-    answer_if (call_verdict a (length t) (length m))
-    (ones (area (asked_window a)) (painted k a t m).map)
-    (painted k a t m).stored
+    answer_if (call_verdict a (length t) (length m)) (counts (ones (area (asked_window a)) (painted k a t m).map) (painted k a t m).stored)
 
 -- what target and map hold in the end: as they were lent where the call is refused
 unfoldable pub target_after : Kind → Asked → List ℕ → List ℕ → List ℕ
@@ -87,24 +83,22 @@ unfoldable pub map_after : Kind → Asked → List ℕ → List ℕ → List ℕ
 map_after k a t m = if_accepted (call_verdict a (length t) (length m)) (painted k a t m).map m
 
 -- the paper's number, place, covered count and store count of each answer: a refusal gives counts 0
-abbrev pub number_in : Composed → ℕ
-number_in (Ans.Done covered stored) = 0
-number_in (Ans.Refused n p) = n
+abbrev pub number_in : {A : Type 0} → Result A Refusal → ℕ
+number_in r = number_of (verdict_in r)
 
-abbrev pub place_in : Composed → ℕ
-place_in (Ans.Done covered stored) = 0
-place_in (Ans.Refused n p) = p
+abbrev pub place_in : {A : Type 0} → Result A Refusal → ℕ
+place_in r = place_of (verdict_in r)
 
-abbrev pub covered_in : Composed → ℕ
-covered_in (Ans.Done covered stored) = covered
-covered_in (Ans.Refused n p) = 0
+abbrev pub covered_in : Result Counts Refusal → ℕ
+covered_in (Ok c) = c.covered
+covered_in (Err e) = 0
 
-abbrev pub stored_in : Composed → ℕ
-stored_in (Ans.Done covered stored) = stored
-stored_in (Ans.Refused n p) = 0
+abbrev pub stored_in : Result Counts Refusal → ℕ
+stored_in (Ok c) = c.stored
+stored_in (Err e) = 0
 
 -- a composer's promise: its answer r, that answer's number, place and counts, and the end state of what was lent
-pub record Answered (k : Kind) (a : Asked) (t m t' m' : List ℕ) (r : Composed) : Type 0 where
+pub record Answered (k : Kind) (a : Asked) (t m t' m' : List ℕ) (r : Result Counts Refusal) : Type 0 where
   pub answer_is : r ≡ answer k a t m
   pub number_is : number_in r ≡ number_of (call_verdict a (length t) (length m))
   pub place_is : place_in r ≡ place_of (call_verdict a (length t) (length m))

@@ -1,6 +1,8 @@
 -- Demands 2 and 3 about whole calls: whatever the file's bytes, the question and the lent bytes are.
-use Rattle.std.specs.Prelude.{ℕ, ◌+◌, ◌-◌, ◌*◌, ◌/◌, ◌^◌, ◌≤◌, ◌<◌, ◌≡◌, List, length, ℤ, pos, negsuc, ◌+ℤ◌}
-use Rattle.format.specs.declared.Verdict.TheVariants.{Accepted, Refused}
+use Rattle.std.specs.Prelude.{ℕ, ◌+◌, ◌-◌, ◌*◌, ◌/◌, ◌^◌, ◌≤◌, ◌<◌, ◌≡◌, List, length, ℤ, pos, negsuc, ◌+ℤ◌, Result}
+use Rattle.format.specs.Checks.{Accepted, Refused, number}
+use Rattle.format.specs.declared.Fault.{Fault}
+use Rattle.format.specs.declared.Refusal.{Refusal}
 use Rattle.plane.specs.Sums.{sum}
 use Rattle.plane.specs.Paint.{ones}
 use Rattle.plane.specs.Tiles.{Ranked, area, within, covered, sum_over}
@@ -11,7 +13,7 @@ use Rattle.plane.specs.Demand3 as Runs
 use Rattle.question.specs.Call.{Asked, call_verdict, asked_window, asked_bytes, selected, painted}
 use Rattle.question.specs.Call.{answer, target_after, map_after, number_in, place_in, covered_in, stored_in, Answered}
 use Rattle.question.specs.declared.WindowRequest.{WindowRequest}
-use Rattle.question.specs.declared.Composed.{Composed}
+use Rattle.question.specs.declared.Counts.{Counts}
 
 -- a number of 32 bits, signed: what left and top are
 abbrev pub Int32 : ℤ → Type 0
@@ -53,8 +55,8 @@ pub record Demand3 (a : Asked) (t m : List ℕ) : Type 0 where
   pub same_target : target_after plain a t m ≡ target_after quick a t m
   pub same_map : map_after plain a t m ≡ map_after quick a t m
   -- a refused call gives counts 0 and changes no lent byte
-  pub refused : (n p : ℕ) → call_verdict a (length t) (length m) ≡ Refused n p → (k : Kind)
-      → (number_in (answer k a t m) ≡ n) × (place_in (answer k a t m) ≡ p) × (covered_in (answer k a t m) ≡ 0) × (stored_in (answer k a t m) ≡ 0)
+  pub refused : (f : Fault) (p : ℕ) → call_verdict a (length t) (length m) ≡ Refused f p → (k : Kind)
+      → (number_in (answer k a t m) ≡ number f) × (place_in (answer k a t m) ≡ p) × (covered_in (answer k a t m) ≡ 0) × (stored_in (answer k a t m) ≡ 0)
       × (target_after k a t m ≡ t) × (map_after k a t m ≡ m)
   -- an accepted call, by either composer: what it leaves is its whole run, which is demand 2's plane, and its counts are the run's
   pub accepted : call_verdict a (length t) (length m) ≡ Accepted → (k : Kind)
@@ -87,6 +89,6 @@ AllCalls = (a : Asked) → Int32 a.request.left → Int32 a.request.top → (t m
 
 -- two calls that keep the composers' promises, one of each, agree
 abbrev pub Agree : Type 0
-Agree = (a : Asked) → Int32 a.request.left → Int32 a.request.top → (t m t₁ m₁ t₂ m₂ : List ℕ) (r₁ r₂ : Composed)
+Agree = (a : Asked) → Int32 a.request.left → Int32 a.request.top → (t m t₁ m₁ t₂ m₂ : List ℕ) (r₁ r₂ : Result Counts Refusal)
     → Answered plain a t m t₁ m₁ r₁ → Answered quick a t m t₂ m₂ r₂
     → (number_in r₁ ≡ number_in r₂) × (place_in r₁ ≡ place_in r₂) × (covered_in r₁ ≡ covered_in r₂) × (t₁ ≡ t₂) × (m₁ ≡ m₂)

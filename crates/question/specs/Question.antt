@@ -9,6 +9,7 @@ use Rattle.tiles.specs.FileTile.{rectangle, meets}
 use Rattle.question.specs.declared.Masks.{Masks}
 use Rattle.question.specs.declared.Masks.TheVariants.{NotChosen, On, Off}
 use Rattle.question.specs.declared.WindowRequest.{WindowRequest}
+use Rattle.format.specs.declared.Fault.TheVariants as Fault
 
 -- masks are off unless asked for
 abbrev pub masks_on : Masks → Bool
@@ -51,9 +52,9 @@ lent_bad w t target map =
 
 unfoldable pub ask_rows : WindowRequest → List ℕ → ℕ → ℕ → List Check
 ask_rows f background target map =
-    row 20 0 (window_bad (request_window f)) ∷
-    row 21 0 (pixel_bad f.pixel_type background) ∷
-    row 22 0 (lent_bad (request_window f) f.pixel_type target map) ∷
+    row Fault.Window 0 (window_bad (request_window f)) ∷
+    row Fault.AskedPixel 0 (pixel_bad f.pixel_type background) ∷
+    row Fault.LentTooShort 0 (lent_bad (request_window f) f.pixel_type target map) ∷
     []
 
 -- ---- agree
@@ -64,7 +65,7 @@ type_bad bs w t e = cond (meets (rectangle bs e) w) (not (eqb (pixel_type bs e) 
 
 -- at entry k, where it is chosen
 abbrev pub agree_row : List ℕ → (ℕ → Bool) → Rect → ℕ → ℕ → List Check
-agree_row bs chosen w t k = row 23 (entry_place bs k) (cond (chosen k) (type_bad bs w t (entry_place bs k)) false) ∷ []
+agree_row bs chosen w t k = row Fault.TileType (entry_place bs k) (cond (chosen k) (type_bad bs w t (entry_place bs k)) false) ∷ []
 
 unfoldable pub agree_rows : List ℕ → (ℕ → Bool) → Rect → ℕ → List Check
 agree_rows bs chosen w t = rows_below (tile_count bs) (agree_row bs chosen w t)

@@ -2,7 +2,7 @@
 #![tactic(auto)]
 
 // Whether masks count: not chosen, on, off.
-#[derive(Clone, Copy)]
+#[derive(Clone, Copy, Debug, PartialEq, Eq)]
 pub enum Masks {
     NotChosen,
     On,
@@ -20,9 +20,9 @@ pub struct WindowRequest {
     pub masks: Masks,
 }
 
-// A composer's answer: the covered count and the store count, or a refusal, whose counts are 0.
+// What a composer answers of a plane that it painted: how many pixels are covered, and how many it stored.
 #[derive(Clone, Copy)]
-pub enum Composed {
-    Done { covered: u64, stored: u64 },
-    Refused { number: u64, place: u64 },
+pub struct Counts {
+    pub covered: u64,
+    pub stored: u64,
 }

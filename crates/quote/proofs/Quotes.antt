@@ -4,10 +4,11 @@ use mathlib.Core.Path.{◌≡◌, refl, sym, ap, ap₂, subst, ◌∙◌}
 use mathlib.Core.List.{List}
 use native.Mathlib.Nat.{le_trans}
 use lib.ListN.{length}
-use Rattle.format.specs.declared.Verdict.TheVariants.{Accepted, Refused}
+use Rattle.format.specs.Checks.{Accepted, Refused, number}
+use Rattle.format.specs.declared.Fault.{Fault}
 use Rattle.plane.specs.Turns.{Kind, plain, quick}
 use Rattle.plane.specs.Cuts.{Line}
-use Rattle.question.specs.Call.{call_verdict, answer, covered_in}
+use Rattle.question.specs.Call.{call_verdict, answer, number_in, place_in, covered_in}
 use Rattle.question.specs.Demand3.{Int32, fore_of, rear_of, RoomFor, Demand3}
 use Rattle.question.proofs.Demand3.{all-calls}
 use Rattle.question.proofs.Lending.{covered-most}
@@ -15,7 +16,7 @@ use Rattle.settings.specs.Reading.{settings_in}
 use Rattle.settings.specs.declared.Settings.{Settings}
 use Rattle.settings.proofs.Reading.{all-settings}
 use Rattle.quote.specs.Quote.{QuoteAsked, asked_with, area_of, sheet_text, verdict_of, count_of, sheet_for}
-use Rattle.quote.specs.Quote.{number_in, place_in, quoted_covered, quoted_length, quoted, quote_target, quote_map, quote_sheet}
+use Rattle.quote.specs.Quote.{quoted_covered, quoted_length, quoted, quote_target, quote_map, quote_sheet}
 use Rattle.quote.specs.Claims.{fore_quote, rear_quote, AllQuotes, AgreeQuotes}
 use Rattle.quote.proofs.Sheets.{area-fits, area-adds, text-most, lines-overlaid, lines-length, overlaid-length}
 use Rattle.quote.proofs.Verdicts.{Read, settings-stop, settled-enough, settled-short, settings-accepted}
@@ -45,8 +46,8 @@ module _ (q : QuoteAsked) (t m u : List ℕ) (e : verdict_of q t m u ≡ Accepte
 
 -- ---- a refused quote
 
-module _ (q : QuoteAsked) (t m u : List ℕ) (n p : ℕ) (e : verdict_of q t m u ≡ Refused n p) (k : Kind) where
-  refused-is : (number_in (quoted k q t m u) ≡ n) × (place_in (quoted k q t m u) ≡ p)
+module _ (q : QuoteAsked) (t m u : List ℕ) (f : Fault) (p : ℕ) (e : verdict_of q t m u ≡ Refused f p) (k : Kind) where
+  refused-is : (number_in (quoted k q t m u) ≡ number f) × (place_in (quoted k q t m u) ≡ p)
       × (quoted_covered (quoted k q t m u) ≡ 0) × (quoted_length (quoted k q t m u) ≡ 0)
       × (quote_target k q t m u ≡ t) × (quote_map k q t m u ≡ m) × (quote_sheet k q t m u ≡ u)
   unfolding quoted quote_target quote_map quote_sheet
@@ -104,8 +105,8 @@ unfolding area_of
 all-quotes q left top t m u =
     let bs = all-settings q.settings in
     record {
-      comma = λ p c. settings-stop q t m u 34 p ((bs.comma p).0 c);
-      fault = λ no none. settings-stop q t m u 35 0 (bs.fault.0 (no, none));
+      comma = λ p c. settings-stop q t m u _ ((bs.comma p).0 c);
+      fault = λ no none. settings-stop q t m u _ (bs.fault.0 (no, none));
       settled = λ s w. settled-enough q t m u s ((bs.reads s).0 w);
       short = λ s w. settled-short q t m u s ((bs.reads s).0 w);
       refused = refused-is q t m u;

@@ -4,8 +4,11 @@ use mathlib.Core.Path.{◌≡◌, refl, sym, ◌∙◌}
 use mathlib.Core.List.{List}
 use mathlib.Core.Bool.{Bool, true, false}
 use lib.ListN.{length}
+use Rattle.std.specs.Prelude.{Ok, Err}
 use borrow.Author.Tests.{lt-ltb, le-ltb, ltb-false}
-use Rattle.format.specs.declared.Verdict.TheVariants.{Accepted, Refused}
+use Rattle.format.specs.Checks.{Accepted, Refused}
+use Rattle.format.specs.declared.Fault.TheVariants as Fault
+use Rattle.format.specs.declared.Refusal.{Refusal}
 use Rattle.format.proofs.Firsts.{then-both}
 use Rattle.plane.specs.Turns.{Kind}
 use Rattle.question.specs.Call.{call_verdict, lending_verdict, answer, target_after, map_after, covered_in}
@@ -13,9 +16,8 @@ use Rattle.question.proofs.Lending.{lending-enough, lending-short, short-refused
 use Rattle.settings.specs.Reading.{settings_in}
 use Rattle.settings.specs.Answers.{settings_verdict}
 use Rattle.settings.specs.declared.Settings.{Settings}
-use Rattle.quote.specs.Quote.{QuoteAsked, asked_with, sheet_bad, quote_verdict, sheet_text, overlaid}
+use Rattle.quote.specs.Quote.{QuoteAsked, asked_with, sheet_bad, quote_verdict, sheet_text, overlaid, figures}
 use Rattle.quote.specs.Quote.{verdict_of, count_of, sheet_for, quoted, quote_target, quote_map, quote_sheet}
-use Rattle.quote.specs.declared.Quoted.TheVariants.{Done}
 
 -- a sheet under 49 bytes is too short
 pub sheet-short : (n : ℕ) → n < 49 → sheet_bad n ≡ true
@@ -38,9 +40,9 @@ module _ (q : QuoteAsked) (t m u : List ℕ) where
   -- ---- the verdict
 
   -- refused settings decide
-  pub settings-stop : (n p : ℕ) → settings_verdict q.settings ≡ Refused n p → verdict_of q t m u ≡ Refused n p
+  pub settings-stop : (r : Refusal) → settings_verdict q.settings ≡ Err r → verdict_of q t m u ≡ Err r
   unfolding quote_verdict
-  settings-stop n p e = rw e
+  settings-stop r e = rw e
 
   -- accepted ones leave it to the composer
   settled : (s : Settings) → Read q s → verdict_of q t m u ≡ lending_verdict (asked_with s q) (length t) (length m) (sheet_bad (length u))
@@ -56,7 +58,7 @@ module _ (q : QuoteAsked) (t m u : List ℕ) where
 
   pub settled-short : (s : Settings) → Read q s → length u < 49
       → (verdict_of q t m u ≡ call_verdict (asked_with s q) 0 (length m)) × (verdict_of q t m u ≡ Accepted → ⊥)
-      × ((target map : ℕ) → call_verdict (asked_with s q) target map ≡ Accepted → verdict_of q t m u ≡ Refused 22 0)
+      × ((target map : ℕ) → call_verdict (asked_with s q) target map ≡ Accepted → verdict_of q t m u ≡ Refused Fault.LentTooShort 0)
   settled-short s r h = (
     lends-short s r h ∙ lending-short (asked_with s q) (length t) (length m),
     λ e. short-refused (asked_with s q) (length t) (length m) (sym (lends-short s r h) ∙ e),
@@ -89,7 +91,7 @@ module _ (q : QuoteAsked) (t m u : List ℕ) where
       -- what it answers and leaves, by the composer k
       module _ (k : Kind) where
         pub quoted-is : quoted k q t m u
-            ≡ Done (covered_in (answer k (asked_with s q) t m)) (length (sheet_text s (covered_in (answer k (asked_with s q) t m))))
+            ≡ Ok (figures (covered_in (answer k (asked_with s q) t m)) (length (sheet_text s (covered_in (answer k (asked_with s q) t m)))))
         unfolding quoted sheet_for count_of
         quoted-is = rw (e, is)
 

@@ -1,22 +1,24 @@
 -- What is claimed of a quote, about any call (`proofs/Quotes` proves it from demand 3 and from what settings are), and of its numbers (`proofs/Decimals`).
-use Rattle.std.specs.Prelude.{ℕ, ◌+◌, ◌*◌, ◌^◌, ◌≤◌, ◌<◌, ◌≡◌, List, ◌++◌, true, length, drop}
+use Rattle.std.specs.Prelude.{ℕ, ◌+◌, ◌*◌, ◌^◌, ◌≤◌, ◌<◌, ◌≡◌, List, ◌++◌, true, length, drop, Result}
 use Rattle.format.specs.Markup.{every}
-use Rattle.format.specs.declared.Verdict.TheVariants.{Accepted, Refused}
+use Rattle.format.specs.Checks.{Accepted, Refused, number}
+use Rattle.format.specs.declared.Fault.{Fault}
+use Rattle.format.specs.declared.Refusal.{Refusal}
 use Rattle.plane.specs.Tiles.{within, covered}
 use Rattle.plane.specs.Turns.{Kind, plain, quick}
 use Rattle.plane.specs.Demand2.{Plane}
 use Rattle.plane.specs.Cuts.{Line, Cuts}
 use Rattle.text.specs.Text.{decimal, line}
-use Rattle.question.specs.Call.{call_verdict, asked_window, asked_bytes, selected, target_after, map_after}
+use Rattle.question.specs.Call.{call_verdict, asked_window, asked_bytes, selected, target_after, map_after, number_in, place_in}
 use Rattle.question.specs.Demand3.{Int32, fore_request, rear_request, RoomFor}
 use Rattle.question.specs.declared.Masks.TheVariants.{NotChosen}
 use Rattle.question.specs.declared.WindowRequest.{WindowRequest}
 use Rattle.settings.specs.Settings.{digit, digits_value, Written, FirstComma}
 use Rattle.settings.specs.declared.Settings.{Settings}
-use Rattle.quote.specs.Quote.{QuoteAsked, asked_with, request_with, name_covered, name_area, number_in, place_in, quoted_covered, quoted_length}
+use Rattle.quote.specs.Quote.{QuoteAsked, asked_with, request_with, name_covered, name_area, quoted_covered, quoted_length}
 use Rattle.quote.specs.Quote.{verdict_of, quoted, quote_target, quote_map, quote_sheet, QuoteAnswered}
 use Rattle.quote.specs.declared.QuoteRequest.{QuoteRequest}
-use Rattle.quote.specs.declared.Quoted.{Quoted}
+use Rattle.quote.specs.declared.Figures.{Figures}
 
 -- ---- a straight line cuts the window of a quote into two, as demand 3 cuts a composer's: everything else, its settings too, is given as the whole's was
 
@@ -38,17 +40,17 @@ rear_quote l q = with_request q (without_masks (rear_request l (request_with Not
 
 pub record QuoteClaims (q : QuoteAsked) (t m u : List ℕ) : Type 0 where
   -- the settings go before the file: a comma is 34 at the first, what is no text of any settings is 35 at 0
-  pub comma : (p : ℕ) → FirstComma q.settings p → verdict_of q t m u ≡ Refused 34 p
-  pub fault : ((p : ℕ) → FirstComma q.settings p → ⊥) → ((s : Settings) → Written s q.settings → ⊥) → verdict_of q t m u ≡ Refused 35 0
+  pub comma : (p : ℕ) → FirstComma q.settings p → verdict_of q t m u ≡ Refused Fault.Comma p
+  pub fault : ((p : ℕ) → FirstComma q.settings p → ⊥) → ((s : Settings) → Written s q.settings → ⊥) → verdict_of q t m u ≡ Refused Fault.Settings 0
   -- then a composer's refusals, with the masks choice that the settings come to
   pub settled : (s : Settings) → Written s q.settings → 49 ≤ length u → verdict_of q t m u ≡ call_verdict (asked_with s q) (length t) (length m)
   -- with a sheet under 49 bytes, what a composer says of an empty target, and never acceptance: 22 at 0 where it would accept with any target and map
   pub short : (s : Settings) → Written s q.settings → length u < 49
       → (verdict_of q t m u ≡ call_verdict (asked_with s q) 0 (length m)) × (verdict_of q t m u ≡ Accepted → ⊥)
-      × ((target map : ℕ) → call_verdict (asked_with s q) target map ≡ Accepted → verdict_of q t m u ≡ Refused 22 0)
+      × ((target map : ℕ) → call_verdict (asked_with s q) target map ≡ Accepted → verdict_of q t m u ≡ Refused Fault.LentTooShort 0)
   -- a refused quote gives the figures 0 and changes no lent byte
-  pub refused : (n p : ℕ) → verdict_of q t m u ≡ Refused n p → (k : Kind)
-      → (number_in (quoted k q t m u) ≡ n) × (place_in (quoted k q t m u) ≡ p)
+  pub refused : (f : Fault) (p : ℕ) → verdict_of q t m u ≡ Refused f p → (k : Kind)
+      → (number_in (quoted k q t m u) ≡ number f) × (place_in (quoted k q t m u) ≡ p)
       × (quoted_covered (quoted k q t m u) ≡ 0) × (quoted_length (quoted k q t m u) ≡ 0)
       × (quote_target k q t m u ≡ t) × (quote_map k q t m u ≡ m) × (quote_sheet k q t m u ≡ u)
   -- an accepted one, by either composer: its count is that of the pixels that a selected tile gives, the sheet begins with the two lines, whose length is
@@ -95,7 +97,7 @@ AllQuotes = (q : QuoteAsked) → Int32 q.request.left → Int32 q.request.top �
 
 -- two calls that keep the promise, one with each composer inside, agree
 abbrev pub AgreeQuotes : Type 0
-AgreeQuotes = (q : QuoteAsked) → Int32 q.request.left → Int32 q.request.top → (t m u t₁ m₁ u₁ t₂ m₂ u₂ : List ℕ) (r₁ r₂ : Quoted)
+AgreeQuotes = (q : QuoteAsked) → Int32 q.request.left → Int32 q.request.top → (t m u t₁ m₁ u₁ t₂ m₂ u₂ : List ℕ) (r₁ r₂ : Result Figures Refusal)
     → QuoteAnswered plain q t m u t₁ m₁ u₁ r₁ → QuoteAnswered quick q t m u t₂ m₂ u₂ r₂
     → (r₁ ≡ r₂) × (t₁ ≡ t₂) × (m₁ ≡ m₂) × (u₁ ≡ u₂)
 

@@ -1,14 +1,13 @@
 -- A quote (paper 02, Req 09): a composer's call with settings in place of a masks choice, and a sheet of two lines.
--- It rests on what a composer promises. Of the reader it cites one definition below that, `lendingVerdict` of question, which has the sheet's 22 in
--- its place among a composer's refusals; the claims `settled` and `short` say what this comes to by `callVerdict` alone, which a composer's promise is about.
-use Rattle.std.specs.Prelude.{ℕ, ◌*◌, ◌≡◌, List, [], ◌∷◌, ◌++◌, Bool, length, drop, ltb, ℤ}
+-- It rests on what a composer promises. Of the reader it cites one definition below that, `lending_verdict` of question, which has the sheet's 22 in
+-- its place among a composer's refusals; the claims `settled` and `short` say what this comes to by `call_verdict` alone, which a composer's promise is about.
+use Rattle.std.specs.Prelude.{ℕ, ◌*◌, ◌≡◌, List, [], ◌∷◌, ◌++◌, Bool, length, drop, ltb, ℤ, Result, Ok, Err}
 use Rattle.format.specs.Scan.{Scan}
-use Rattle.format.specs.Checks.{and_then, if_accepted, number_of, place_of}
-use Rattle.format.specs.declared.Verdict.{Verdict}
-use Rattle.format.specs.declared.Verdict.TheVariants as Is
+use Rattle.format.specs.Checks.{Verdict, and_then, if_accepted, number_of, place_of, answer_if}
+use Rattle.format.specs.declared.Refusal.{Refusal}
 use Rattle.plane.specs.Turns.{Kind}
 use Rattle.text.specs.Text.{decimal, line}
-use Rattle.question.specs.Call.{Asked, lending_verdict, answer, target_after, map_after, covered_in}
+use Rattle.question.specs.Call.{Asked, lending_verdict, answer, target_after, map_after, covered_in, number_in, place_in}
 use Rattle.question.specs.declared.Masks.{Masks}
 use Rattle.question.specs.declared.WindowRequest.{WindowRequest}
 use Rattle.settings.specs.Settings.{masks_meant}
@@ -16,8 +15,7 @@ use Rattle.settings.specs.Reading.{settings_in}
 use Rattle.settings.specs.Answers.{settings_verdict}
 use Rattle.settings.specs.declared.Settings.{Settings}
 use Rattle.quote.specs.declared.QuoteRequest.{QuoteRequest}
-use Rattle.quote.specs.declared.Quoted.{Quoted}
-use Rattle.quote.specs.declared.Quoted.TheVariants as Ans
+use Rattle.quote.specs.declared.Figures.{Figures}
 
 -- what a quote is given, the lent target, map and sheet aside
 pub record QuoteAsked : Type 0 where
@@ -76,28 +74,19 @@ sheet_text s covered = line name_covered (decimal covered) ++ line name_area (de
 unfoldable pub overlaid : List ℕ → List ℕ → List ℕ
 overlaid text u = text ++ drop (length text) u
 
--- ---- the answer, by the verdict: the covered count and the length of the sheet's text
+-- ---- the answer: the covered count and the length of the sheet's text
 
-abbrev pub quoted_if : Verdict → ℕ → ℕ → Quoted
-quoted_if Is.Accepted covered n = Ans.Done covered n
-quoted_if (Is.Refused number place) covered n = Ans.Refused number place
+abbrev pub figures : ℕ → ℕ → Figures
+figures covered n = record { covered = covered; length = n }
 
--- the refusal's number and place, and the two figures: a refusal gives 0 for both
-abbrev pub number_in : Quoted → ℕ
-number_in (Ans.Done covered n) = 0
-number_in (Ans.Refused number place) = number
+-- of an answer: a refusal gives 0 for both
+abbrev pub quoted_covered : Result Figures Refusal → ℕ
+quoted_covered (Ok f) = f.covered
+quoted_covered (Err e) = 0
 
-abbrev pub place_in : Quoted → ℕ
-place_in (Ans.Done covered n) = 0
-place_in (Ans.Refused number place) = place
-
-abbrev pub quoted_covered : Quoted → ℕ
-quoted_covered (Ans.Done covered n) = covered
-quoted_covered (Ans.Refused number place) = 0
-
-abbrev pub quoted_length : Quoted → ℕ
-quoted_length (Ans.Done covered n) = n
-quoted_length (Ans.Refused number place) = 0
+abbrev pub quoted_length : Result Figures Refusal → ℕ
+quoted_length (Ok f) = f.length
+quoted_length (Err e) = 0
 
 -- ---- a whole call, by the composer k, over the lent target t, map m and sheet u
 
@@ -111,8 +100,8 @@ sheet_for k q t m = sheet_text (settings_in q.settings) (count_of k q t m)
 abbrev pub verdict_of : QuoteAsked → List ℕ → List ℕ → List ℕ → Verdict
 verdict_of q t m u = quote_verdict q (length t) (length m) (length u)
 
-unfoldable pub quoted : Kind → QuoteAsked → List ℕ → List ℕ → List ℕ → Quoted
-quoted k q t m u = quoted_if (verdict_of q t m u) (count_of k q t m) (length (sheet_for k q t m))
+unfoldable pub quoted : Kind → QuoteAsked → List ℕ → List ℕ → List ℕ → Result Figures Refusal
+quoted k q t m u = answer_if (verdict_of q t m u) (figures (count_of k q t m) (length (sheet_for k q t m)))
 
 -- what target, map and sheet hold in the end: as they were lent where the call is refused
 unfoldable pub quote_target : Kind → QuoteAsked → List ℕ → List ℕ → List ℕ → List ℕ
@@ -125,7 +114,7 @@ unfoldable pub quote_sheet : Kind → QuoteAsked → List ℕ → List ℕ → L
 quote_sheet k q t m u = if_accepted (verdict_of q t m u) (overlaid (sheet_for k q t m) u) u
 
 -- the promise: the answer r, its number, place and figures, and the end state of what was lent
-pub record QuoteAnswered (k : Kind) (q : QuoteAsked) (t m u t' m' u' : List ℕ) (r : Quoted) : Type 0 where
+pub record QuoteAnswered (k : Kind) (q : QuoteAsked) (t m u t' m' u' : List ℕ) (r : Result Figures Refusal) : Type 0 where
   pub answer_is : r ≡ quoted k q t m u
   pub number_is : number_in r ≡ number_of (verdict_of q t m u)
   pub place_is : place_in r ≡ place_of (verdict_of q t m u)

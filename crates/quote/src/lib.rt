@@ -3,15 +3,14 @@
 
 ghost use Rattle.std.specs.Prelude.{◌≡◌, ◌+◌, ◌≤◌, ◌<◌, length};
 ghost use Rattle.plane.specs.Turns.{quick};
-ghost use Rattle.question.specs.Call.{covered_in};
 ghost use Rattle.compose.specs.Steps.{asked};
 ghost use Rattle.settings.specs.Settings.{masks_meant};
 ghost use Rattle.quote.specs.Quote.{request_with, QuoteAnswered};
-ghost use Rattle.quote.specs.Steps.{quote_asked, Pitched, SheetSays, SheetWritten, Finished, QuoteBy, ShortAsked, ShortRefused};
+ghost use Rattle.quote.specs.Steps.{quote_asked, Pitched, SheetSays, SheetWritten, QuoteBy, ShortAsked, ShortRefused};
 
-use format::Release;
-use question::{Composed, WindowRequest};
-use settings::{Settings, SettingsAnswer};
+use format::{Fault, Refusal, Release};
+use question::{Counts, WindowRequest};
+use settings::Settings;
 use text::Text;
 
 // The question but for its starts, its scene, the background and the masks choice, which the settings make: the asked pixel type and the window.
@@ -24,11 +23,11 @@ pub struct QuoteRequest {
     pub height: u64,
 }
 
-// The answer: the covered count and the length of the sheet's text, or a refusal, whose figures are 0.
+// What a quote answers: the covered count, and the length of the sheet's text.
 #[derive(Clone, Copy)]
-pub enum Quoted {
-    Done { covered: u64, length: u64 },
-    Refused { number: u64, place: u64 },
+pub struct Figures {
+    pub covered: u64,
+    pub length: u64,
 }
 
 // ---- the sheet
@@ -38,12 +37,11 @@ fn sheet_text(x: Settings, covered: u64) -> Text
     requires { Pitched x × (covered ≤ 4294967296) }
     ensures { SheetSays x covered result }
 {
-    let pitch_x = x.pitch_x;
-    let pitch_y = x.pitch_y;
-    let area = covered * pitch_x * pitch_y;
-    let empty = text::empty();
-    let count = text::put_line(empty, b"covered=", covered);
-    text::put_line(count, b"area_nm2=", area)
+    let area = covered * x.pitch_x * x.pitch_y;
+    let mut text = Text::new();
+    text.put_line(b"covered=", covered);
+    text.put_line(b"area_nm2=", area);
+    text
 }
 
 // Writes them at the start of a lent sheet; the result is their length.
@@ -52,24 +50,9 @@ fn write_sheet(sheet: &mut [u8], x: Settings, covered: u64) -> u64
     ensures { SheetWritten x covered sheet.old sheet.new result }
 {
     let text = sheet_text(x, covered);
-    let length = text.length;
-    let bytes = text.bytes;
-    copies::copy_few(sheet, &bytes, 0, length);
-    length as u64
-}
-
-// What a composer's answer comes to: a refusal stays, a count is written on the sheet.
-fn finish(sheet: &mut [u8], x: Settings, c: Composed) -> Quoted
-    requires { Pitched x × (covered_in c ≤ 4294967296) × (49 ≤ length sheet.old) }
-    ensures { Finished x c sheet.old sheet.new result }
-{
-    match c {
-        Composed::Refused { number, place } => Quoted::Refused { number, place },
-        Composed::Done { covered, stored: _ } => {
-            let length = write_sheet(sheet, x, covered);
-            Quoted::Done { covered, length }
-        }
-    }
+    let bytes = text.as_bytes();
+    sheet[..bytes.len()].copy_from_slice(bytes);
+    bytes.len() as u64
 }
 
 // ---- a whole call
@@ -99,7 +82,7 @@ fn ask_short(
     background: &[u8],
     target: &mut [u8],
     map: &mut [u8],
-) -> Composed
+) -> Result<Counts, Refusal>
     ensures { ShortAsked (asked s.now release starts.now any_scene f background.now) target.old map.old target.new map.new result }
 {
     let none = &mut target[0..0];
@@ -116,17 +99,13 @@ fn refuse_short(
     background: &[u8],
     target: &mut [u8],
     map: &mut [u8],
-) -> Quoted
+) -> Refusal
     ensures { ShortRefused (asked s.now release starts.now any_scene f background.now) target.old map.old target.new map.new result }
 {
-    let c = ask_short(s, release, starts, any_scene, f, background, target, map);
-    match c {
-        Composed::Refused { number, place } => Quoted::Refused { number, place },
-        Composed::Done {
-            covered: _,
-            stored: _,
-        } => Quoted::Refused {
-            number: 22,
+    match ask_short(s, release, starts, any_scene, f, background, target, map) {
+        Err(refusal) => refusal,
+        Ok(_) => Refusal {
+            fault: Fault::LentTooShort,
             place: 0,
         },
     }
@@ -144,15 +123,18 @@ fn quote_by(
     target: &mut [u8],
     map: &mut [u8],
     sheet: &mut [u8],
-) -> Quoted
+) -> Result<Figures, Refusal>
     requires { Pitched x }
     ensures { QuoteBy quick (asked s.now release starts.now any_scene f background.now) x target.old map.old sheet.old target.new map.new sheet.new result }
 {
     if sheet.len() < 49 {
-        return refuse_short(s, release, starts, any_scene, f, background, target, map);
+        let refusal = refuse_short(s, release, starts, any_scene, f, background, target, map);
+        return Err(refusal);
     }
-    let c = compose::compose_quick(s, release, starts, any_scene, f, background, target, map);
-    finish(sheet, x, c)
+    let counts = compose::compose_quick(s, release, starts, any_scene, f, background, target, map)?;
+    let covered = counts.covered;
+    let length = write_sheet(sheet, x, covered);
+    Ok(Figures { covered, length })
 }
 
 // A quote: any file bytes, any question, any settings, any lent bytes. The quick composer is inside.
@@ -167,17 +149,12 @@ pub fn quote(
     target: &mut [u8],
     map: &mut [u8],
     sheet: &mut [u8],
-) -> Quoted
+) -> Result<Figures, Refusal>
     ensures { QuoteAnswered quick (quote_asked s.now release starts.now any_scene f background.now settings.now) target.old map.old sheet.old target.new map.new sheet.new result }
 {
-    let read = settings::read(settings);
-    match read {
-        SettingsAnswer::Refused { number, place } => Quoted::Refused { number, place },
-        SettingsAnswer::Found(x) => {
-            let request = request_by(f, x);
-            quote_by(
-                s, release, starts, any_scene, request, background, x, target, map, sheet,
-            )
-        }
-    }
+    let x = settings::read(settings)?;
+    let request = request_by(f, x);
+    quote_by(
+        s, release, starts, any_scene, request, background, x, target, map, sheet,
+    )
 }

@@ -1,20 +1,23 @@
 -- How a repack answers: by the file's verdict, answered as v, by refusal 36, by the length of the lent buffer. Assumes nothing.
 use Prim.Native.Nat.{ℕ, ◌≤◌, ◌<◌}
-use mathlib.Core.Path.{◌≡◌, refl, sym, ◌∙◌}
-use mathlib.Core.List.{List, [], ◌∷◌}
+use mathlib.Core.Path.{◌≡◌, refl, sym, ap, ◌∙◌}
+use mathlib.Core.List.{List, [], ◌∷◌, ◌++◌, append_assoc}
 use mathlib.Core.Bool.{Bool, true, false}
 use native.Mathlib.Nat.{zero-add}
 use native.Mathlib.Omega.{arith}
 use lib.ListN.{length}
 use lib.Dec.{ltb}
 use borrow.Author.Tests.{lt-ltb, le-ltb}
+use Rattle.std.specs.Prelude.{Ok, Err}
 use Rattle.format.specs.Scan.{Scan, scan_of}
-use Rattle.format.specs.Checks.{row, first}
+use Rattle.format.specs.Checks.{Verdict, Accepted, Refused, refusal, row, first, and_then}
 use Rattle.format.specs.Rules.{checks, verdict}
 use Rattle.format.specs.Answers.{VerdictAnswered}
+use Rattle.format.specs.declared.Fault.TheVariants as Fault
+use Rattle.format.specs.declared.Refusal.{Refusal}
 use Rattle.format.specs.declared.Release.{Release}
-use Rattle.format.specs.declared.Verdict.{Verdict}
-use Rattle.format.specs.declared.Verdict.TheVariants.{Accepted, Refused}
+use Rattle.format.proofs.Firsts.{first-append}
+use Rattle.format.proofs.Answering.{verdict-answered, value-refused, value-found}
 use Rattle.directory.proofs.Stages.{then-stop, then_next}
 use Rattle.judge.proofs.AcceptedFile.{accepted-file}
 use Rattle.pack.specs.Put.{put}
@@ -22,99 +25,96 @@ use Rattle.repacked.specs.NewFile.{repacked}
 use Rattle.repacked.specs.Refusals.{too_large, size_verdict, repack_verdict}
 use Rattle.repacked.proofs.Lengths.{kept}
 use Rattle.repacked.proofs.Places.{new-length}
-use Rattle.repack.specs.Answers.{RepackAnswered, out_after}
+use Rattle.repack.specs.Answers.{RepackAnswered, Placed, out_after}
 use Rattle.repack.specs.Places.{PlacesAre, RepackRoom}
-use Rattle.repack.specs.declared.RepackAnswer.TheVariants as Ans
 use Rattle.repack.specs.declared.sizes.Places.{Places}
 
--- ---- the answer, by the verdict w on a file whose new one is n bytes long
-
-answered-refused : {w : Verdict} {n m p : ℕ} → Refused m p ≡ w → RepackAnswered w n (Ans.Refused m p)
-answered-refused e = record { answer_is = rw (← e); number_is = rw (← e); place_is = rw (← e); length_is = rw (← e) }
-
-answered-done : {w : Verdict} {n k : ℕ} → Accepted ≡ w → k ≡ n → RepackAnswered w n (Ans.Done k)
-answered-done e f = record { answer_is = rw (← e, f); number_is = rw (← e); place_is = rw (← e); length_is = rw (← e) f }
-
--- ---- what the buffer u holds in the end
-
-out-kept : (sc : Scan) (u : List ℕ) {m p : ℕ} → Refused m p ≡ repack_verdict sc (length u) → u ≡ out_after sc u
-unfolding out_after
-out-kept sc u e = rw (← e)
-
-out-put : (sc : Scan) (u v : List ℕ) → Accepted ≡ repack_verdict sc (length u) → v ≡ put u 0 (repacked sc.file) → v ≡ out_after sc u
-unfolding out_after put
-out-put sc u v e f = rw (← e) (f ∙ rw (zero-add (length (repacked sc.file))))
-
--- ---- the file bs under the release r
+-- ---- where the new segments stand, of the file bs under the release r
 
 module _ (bs : List ℕ) (r : Release) (v : Verdict) (a : VerdictAnswered (verdict (scan_of bs r)) v) where
   -- it is refused
-  module _ (m p : ℕ) (h : v ≡ Refused m p) where
-    pub size-refused : RepackAnswered (size_verdict (scan_of bs r)) (length (repacked bs)) (Ans.Refused m p)
-    unfolding verdict size_verdict
-    size-refused = answered-refused (then-stop v (checks (scan_of bs r)) _ m p a.answer_is h)
-
-    repack-stop : (u : List ℕ) → Refused m p ≡ repack_verdict (scan_of bs r) (length u)
-    unfolding verdict repack_verdict
-    repack-stop u = then-stop v (checks (scan_of bs r)) _ m p a.answer_is h
-
-    pub repack-refused : (u : List ℕ) → RepackAnswered (repack_verdict (scan_of bs r) (length u)) (length (repacked bs)) (Ans.Refused m p)
-    repack-refused u = answered-refused (repack-stop u)
-
-    pub refused-kept : (u : List ℕ) → u ≡ out_after (scan_of bs r) u
-    refused-kept u = out-kept (scan_of bs r) u (repack-stop u)
+  pub places-refused : (e : Refusal) → v ≡ Err e → size_verdict (scan_of bs r) ≡ Err e
+  unfolding verdict size_verdict
+  places-refused e h = sym (then-stop v (checks (scan_of bs r)) _ e a.answer_is h)
 
   -- it is accepted; b says whether the new file is too large
   module _ (h : v ≡ Accepted) (b : Bool) (g : b ≡ too_large bs) where
-    module _ (t : b ≡ true) where
-      pub size-large : RepackAnswered (size_verdict (scan_of bs r)) (length (repacked bs)) (Ans.Refused 36 0)
-      unfolding verdict size_verdict
-      size-large = answered-refused (then_next v (Refused 36 0) (checks (scan_of bs r)) _ a.answer_is h (rw (← g, t)))
+    pub places-large : b ≡ true → size_verdict (scan_of bs r) ≡ Refused Fault.RepackTooLarge 0
+    unfolding verdict size_verdict
+    places-large t = sym (then_next v (Refused Fault.RepackTooLarge 0) (checks (scan_of bs r)) _ a.answer_is h (rw (← g, t)))
 
-      repack-36 : (u : List ℕ) → Refused 36 0 ≡ repack_verdict (scan_of bs r) (length u)
-      unfolding verdict repack_verdict
-      repack-36 u = then_next v (Refused 36 0) (checks (scan_of bs r)) _ a.answer_is h (rw (← g, t))
+    not_large : b ≡ false → size_verdict (scan_of bs r) ≡ Accepted
+    unfolding verdict size_verdict
+    not_large t = sym (then_next v Accepted (checks (scan_of bs r)) _ a.answer_is h (rw (← g, t)))
 
-      pub repack-large : (u : List ℕ) → RepackAnswered (repack_verdict (scan_of bs r) (length u)) (length (repacked bs)) (Ans.Refused 36 0)
-      repack-large u = answered-refused (repack-36 u)
+    pub placed : (p : Places) → b ≡ false → PlacesAre bs p → Placed (scan_of bs r) p
+    placed p t w = record { size = not_large t; accepted = accepted-file bs r v a h; places = w }
 
-      pub large-kept : (u : List ℕ) → u ≡ out_after (scan_of bs r) u
-      large-kept u = out-kept (scan_of bs r) u (repack-36 u)
+-- ---- the refusals of a repack: those of the new file's length, and then 25
 
-    module _ (t : b ≡ false) (p : Places) (w : PlacesAre bs p) where
-      end_is : p.end ≡ length (repacked bs)
-      end_is = w.end ∙ sym (new-length bs (kept bs (accepted-file bs r v a h)))
+repack-then : (sc : Scan) (out : ℕ)
+    → repack_verdict sc out ≡ and_then (size_verdict sc) (first (row Fault.RepackBuffer 0 (ltb out (length (repacked sc.file))) ∷ []))
+unfolding repack_verdict size_verdict
+repack-then sc out =
+    let large = row Fault.RepackTooLarge 0 (too_large sc.file) ∷ [] in
+    let short = row Fault.RepackBuffer 0 (ltb out (length (repacked sc.file))) ∷ [] in
+    ap first (sym (append_assoc (checks sc) large short)) ∙ first-append (checks sc ++ large) short
 
-      pub size-done : RepackAnswered (size_verdict (scan_of bs r)) (length (repacked bs)) (Ans.Done p.end)
-      unfolding verdict size_verdict
-      size-done = answered-done (then_next v Accepted (checks (scan_of bs r)) _ a.answer_is h (rw (← g, t))) end_is
+-- what the buffer u holds in the end
+out-kept : (sc : Scan) (u : List ℕ) {e : Refusal} → repack_verdict sc (length u) ≡ Err e → u ≡ out_after sc u
+unfolding out_after
+out-kept sc u h = rw h
 
-      module _ (u : List ℕ) where
-        by_length : {c : Bool} (x : Verdict) → ltb (length u) (length (repacked bs)) ≡ c → x ≡ first (row 25 0 c ∷ []) → x ≡ repack_verdict (scan_of bs r) (length u)
-        unfolding verdict repack_verdict
-        by_length x e f = then_next v x (checks (scan_of bs r)) _ a.answer_is h (rw (← g, t, e) f)
+out-put : (sc : Scan) (u v : List ℕ) → repack_verdict sc (length u) ≡ Accepted → v ≡ put u 0 (repacked sc.file) → v ≡ out_after sc u
+unfolding out_after put
+out-put sc u v h f = rw h (f ∙ rw (zero-add (length (repacked sc.file))))
 
-        -- the buffer is shorter
-        module _ (l : length u < p.end) where
-          repack-25 : Refused 25 0 ≡ repack_verdict (scan_of bs r) (length u)
-          repack-25 = by_length (Refused 25 0) (lt-ltb (length u) (length (repacked bs)) (omega (arith, end_is))) refl
+-- ---- the scan is refused
 
-          pub repack-short : RepackAnswered (repack_verdict (scan_of bs r) (length u)) (length (repacked bs)) (Ans.Refused 25 0)
-          repack-short = answered-refused repack-25
+module _ (sc : Scan) (e : Refusal) (h : size_verdict sc ≡ Err e) where
+  pub size-refused : (n : ℕ) → RepackAnswered (size_verdict sc) n (Err e)
+  size-refused n = value-refused (verdict-answered (sym h)) refl
 
-          pub short-kept : u ≡ out_after (scan_of bs r) u
-          short-kept = out-kept (scan_of bs r) u repack-25
+  repack-stop : (out : ℕ) → repack_verdict sc out ≡ Err e
+  repack-stop out = repack-then sc out ∙ rw h
 
-        -- it is long enough
-        module _ (l : p.end ≤ length u) where
-          repack-0 : Accepted ≡ repack_verdict (scan_of bs r) (length u)
-          repack-0 = by_length Accepted (le-ltb (length u) (length (repacked bs)) (omega (arith, end_is))) refl
+  pub repack-refused : (out n : ℕ) → RepackAnswered (repack_verdict sc out) n (Err e)
+  repack-refused out n = value-refused (verdict-answered (sym (repack-stop out))) refl
 
-          pub repack-done : RepackAnswered (repack_verdict (scan_of bs r) (length u)) (length (repacked bs)) (Ans.Done p.end)
-          repack-done = answered-done repack-0 end_is
+  pub refused-kept : (u : List ℕ) → u ≡ out_after sc u
+  refused-kept u = out-kept sc u (repack-stop (length u))
 
-          pub repack-room : RepackRoom bs u p
-          repack-room = record { accepted = accepted-file bs r v a h; places = w; fits = omega (arith, w.end) }
+-- ---- it is not, and its new segments stand at p
 
-          pub done-put : (out : List ℕ) → out ≡ put u 0 (repacked bs) → out ≡ out_after (scan_of bs r) u
-          done-put out e = out-put (scan_of bs r) u out repack-0 e
+module _ (sc : Scan) (p : Places) (w : Placed sc p) where
+  end_is : p.end ≡ length (repacked sc.file)
+  end_is = w.places.end ∙ sym (new-length sc.file (kept sc.file w.accepted))
+
+  pub size-done : RepackAnswered (size_verdict sc) (length (repacked sc.file)) (Ok p.end)
+  size-done = value-found (verdict-answered (sym w.size)) refl end_is
+
+  module _ (u : List ℕ) where
+    -- the buffer is shorter
+    module _ (l : length u < p.end) where
+      short : repack_verdict sc (length u) ≡ Refused Fault.RepackBuffer 0
+      short = repack-then sc (length u) ∙ rw (w.size, lt-ltb (length u) (length (repacked sc.file)) (omega (arith, end_is)))
+
+      pub repack-short : RepackAnswered (repack_verdict sc (length u)) (length (repacked sc.file)) (Err (refusal Fault.RepackBuffer 0))
+      repack-short = value-refused (verdict-answered (sym short)) refl
+
+      pub short-kept : u ≡ out_after sc u
+      short-kept = out-kept sc u short
+
+    -- it is long enough
+    module _ (l : p.end ≤ length u) where
+      fits : repack_verdict sc (length u) ≡ Accepted
+      fits = repack-then sc (length u) ∙ rw (w.size, le-ltb (length u) (length (repacked sc.file)) (omega (arith, end_is)))
+
+      pub repack-done : RepackAnswered (repack_verdict sc (length u)) (length (repacked sc.file)) (Ok p.end)
+      repack-done = value-found (verdict-answered (sym fits)) refl end_is
+
+      pub repack-room : RepackRoom sc.file u p
+      repack-room = record { accepted = w.accepted; places = w.places; fits = omega (arith, w.places.end) }
+
+      pub done-put : (out : List ℕ) → out ≡ put u 0 (repacked sc.file) → out ≡ out_after sc u
+      done-put out e = out-put sc u out fits e

@@ -67,7 +67,7 @@ module _ (bs : List ℕ) (a : AcceptedFile bs) where
       (λ some.
       let t = attachment_directory_position bs in
       let rows = rw (ne_eqb t 0 some) at (verdict-parts (scan_of bs a.release) a.accepted).attachments in
-      ltb-false 4096 (attachment_entry_count bs t) (none _ (first-passed (attachment_directory_bad bs t) 10 t _ rows).0 2))
+      ltb-false 4096 (attachment_entry_count bs t) (none _ (first-passed (attachment_directory_bad bs t) _ _ rows).0 2))
 
   -- ---- contents
 

@@ -1,6 +1,6 @@
 -- How many segments the new file has, and refusal 36. Assumes nothing.
 use Prim.Native.Nat.{ℕ, ◌+◌, ◌^◌, ◌≤◌, ◌<◌}
-use mathlib.Core.Path.{◌≡◌, refl, sym}
+use mathlib.Core.Path.{◌∙◌, ◌≡◌, refl, sym}
 use mathlib.Core.List.{List, [], ◌∷◌}
 use mathlib.Core.Bool.{Bool, true, false, cond}
 use native.Mathlib.Omega.{arith}
@@ -14,6 +14,7 @@ use Rattle.format.specs.File.{metadata_position, attachment_directory_position}
 use Rattle.format.specs.Directory.{tile_count}
 use Rattle.format.specs.Attachments.{attachment_count}
 use Rattle.format.specs.Rules.{AcceptedFile}
+use Rattle.format.proofs.Flags.{any-skip, any_last}
 use Rattle.repacked.specs.NewFile.{if_named, new_segments, new_end}
 use Rattle.repacked.specs.Refusals.{too_large}
 use Rattle.repacked.proofs.Lengths.{kept}
@@ -57,15 +58,9 @@ module _ (bs : List ℕ) (a : AcceptedFile bs) (n : ℕ) (c : n ≡ length (new_
   by_both : {b b' : Bool} → ltb 8192 n ≡ b → ltb (2 ^ 40) (new_end bs) ≡ b' → too_large bs ≡ any_of (b ∷ b' ∷ [])
   by_both e f = rw (too-large-is bs (kept bs a), ← c, e, f)
 
-  pub large-count : 8192 < n → true ≡ too_large bs
+  pub large-count : 8192 < n → ltb 8192 n ≡ too_large bs
   unfolding any_of
-  large-count h = sym (by_both (lt-ltb 8192 n h) refl)
+  large-count h = lt-ltb 8192 n h ∙ sym (by_both (lt-ltb 8192 n h) refl)
 
-  module _ (h : n ≤ 8192) (p : Places) (w : PlacesAre bs p) where
-    pub large-end : 2 ^ 40 < p.end → true ≡ too_large bs
-    unfolding any_of
-    large-end l = sym (by_both (le-ltb 8192 n h) (lt-ltb (2 ^ 40) (new_end bs) (omega (arith, w.end))))
-
-    pub not-large : p.end ≤ 2 ^ 40 → false ≡ too_large bs
-    unfolding any_of
-    not-large l = sym (by_both (le-ltb 8192 n h) (le-ltb (2 ^ 40) (new_end bs) (omega (arith, w.end))))
+  pub large-end : n ≤ 8192 → (p : Places) → PlacesAre bs p → ltb (2 ^ 40) p.end ≡ too_large bs
+  large-end h p w = any-skip _ false _ refl (any_last _ _ (rw w.end)) ∙ sym (by_both (le-ltb 8192 n h) refl)

@@ -18,6 +18,7 @@ use Rattle.repacked.proofs.Places.{metadata_if, directory_if, before_block, befo
 use Rattle.repack.specs.Places.{RepackRoom}
 use Rattle.repack.specs.declared.sizes.Places.{Places}
 use Rattle.repack.proofs.NewPlaces.{directory-at}
+use Rattle.repack.proofs.Annexes.{DirectoryRoom, directory-room}
 use Rattle.repack.proofs.PackedPuts.{packed_none, packed-one, packed-next, directory-behind, attachments-behind, block-rises, attachment-rises}
 
 -- ---- a segment that need not be there: the position m of the old file names it, or is 0
@@ -97,6 +98,16 @@ blocks-room bs n l c h = rw c (file-room bs l h).blocks
 
 pub end-room : (bs : List ℕ) (n l : ℕ) → n ≡ attachment_count bs → new_end bs ≤ l → new_attachment bs n ≤ l
 end-room bs n l c h = rw c (file-room bs l h).end
+
+-- the attachment directory's room, where the old one is at t
+module _ (bs u : List ℕ) (p : Places) (r : RepackRoom bs u p) (t : ℕ) (e : (t ≡ attachment_directory_position bs) × (t ≡ 0 → ⊥)) where
+  pub directory-placed : p.attachment_directory + segment_size (attachment_directory_size p.attachments) ≤ length u
+  directory-placed =
+      directory-has-room bs t p.attachment_directory p.attachments (length u) e.0 e.1 r.places.attachments r.places.attachment_directory
+      (file-room bs (length u) r.fits).attachment
+
+  pub directory-here : (n : ℕ) → n ≡ attachment_directory_size p.attachments → DirectoryRoom p.attachments n (length u) p.attachment_directory
+  directory-here n f = directory-room bs r.accepted p.attachments r.places.attachments n f (length u) p.attachment_directory directory-placed
 
 -- ---- the annexes, and the whole file
 

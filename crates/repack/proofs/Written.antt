@@ -7,7 +7,9 @@ use lib.ListN.{length}
 use mir.Syntax.{w64}
 use mir.Val.{Fits}
 use Rattle.format.specs.Bytes.{part_of}
-use Rattle.format.specs.Names.{name_file, name_directory}
+use Rattle.format.specs.Names.{name_file, name_directory, name_sub_block, name_metadata, name_attachment, name_attachment_directory, name_deleted}
+use Rattle.segments.specs.Kinds.{name_of}
+use Rattle.segments.specs.declared.kinds.Kind.{Kind}
 use Rattle.format.specs.File.{directory_position, metadata_position, attachment_directory_position}
 use Rattle.format.specs.Directory.{tile_count}
 use Rattle.format.specs.Rules.{AcceptedFile}
@@ -23,6 +25,17 @@ use Rattle.repacked.specs.NewFile.{if_named, entries_size, directory_size, new_m
 use Rattle.repacked.proofs.Lengths.{kept, file-length, directory-content}
 use Rattle.repack.proofs.Contents.{directory-content-put}
 use Rattle.repack.proofs.NewPlaces.{directory-at}
+
+-- a name is that of a kind of segment, which has 16 bytes
+pub name-long : (k : Kind) {name : List ℕ} → name ≡ name_of k → length name ≡ 16
+unfolding name_file name_directory name_sub_block name_metadata name_attachment name_attachment_directory name_deleted
+name-long Kind.File e = ap length e
+name-long Kind.Directory e = ap length e
+name-long Kind.SubBlock e = ap length e
+name-long Kind.Metadata e = ap length e
+name-long Kind.Attachment e = ap length e
+name-long Kind.AttachmentDirectory e = ap length e
+name-long Kind.Deleted e = ap length e
 
 -- the header leaves the buffer's length
 header-same : (u v name : List ℕ) (p n : ℕ) → p + segment_size n ≤ length u → length name ≡ 16 → v ≡ put u p (header name n) → length v ≡ length u

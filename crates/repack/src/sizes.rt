@@ -29,10 +29,7 @@ pub struct Places {
 pub fn if_named(position: u64, x: u64) -> u64
     ensures { result ≡ if_named position x 0 }
 {
-    if position == 0 {
-        return 0;
-    }
-    x
+    if position == 0 { 0 } else { x }
 }
 
 // ---- contents
@@ -45,7 +42,7 @@ pub fn entry_size(s: &[u8], e: u64) -> u64
     32 + 20 * entries::dimension_count(s, e)
 }
 
-// Metadata, pixels and attachment of the sub-block at q, whose entry is at e.
+// Metadata, pixels and attachment of the sub-block at q, whose entry is at e. (Both are passed, as `subblocks` asks for both.)
 pub fn parts_size(s: &[u8], e: u64, q: u64) -> u64
     requires { Filled s.now e s.now q }
     ensures { result ≡ parts_size s.now q }
@@ -72,11 +69,9 @@ fn entries_size(s: &[u8], n: u64) -> u64
 {
     let mut e = directory::first_entry(s);
     let mut size: u64 = 0;
-    let mut k: u64 = 0;
-    while k < n {
+    for _k in 0..n {
         size += entry_size(s, e);
         e = entries::next_entry(s, e);
-        k += 1;
     }
     size
 }
@@ -122,12 +117,10 @@ fn blocks_end(s: &[u8], n: u64, first: u64) -> u64
 {
     let mut e = directory::first_entry(s);
     let mut at = first;
-    let mut k: u64 = 0;
-    while k < n {
+    for _k in 0..n {
         let q = entries::file_position(s, e);
         at += pack::segment_size(sub_block_size(s, e, q));
         e = entries::next_entry(s, e);
-        k += 1;
     }
     at
 }
@@ -139,9 +132,10 @@ fn metadata_segment_size(s: &[u8]) -> u64
 {
     let m = segments::file::metadata_position(s);
     if m == 0 {
-        return 0;
+        0
+    } else {
+        pack::segment_size(metadata_content_size(s, m))
     }
-    pack::segment_size(metadata_content_size(s, m))
 }
 
 // How long the attachment directory is, with n entries: 0 where there is none.
@@ -151,9 +145,10 @@ fn attachment_directory_segment_size(s: &[u8], n: u64) -> u64
 {
     let t = segments::file::attachment_directory_position(s);
     if t == 0 {
-        return 0;
+        0
+    } else {
+        pack::segment_size(attachment_directory_size(n))
     }
-    pack::segment_size(attachment_directory_size(n))
 }
 
 // The place behind the n attachments, of which the first stands at `first`.
@@ -163,11 +158,9 @@ fn attachments_end(s: &[u8], n: u64, first: u64) -> u64
 {
     let t = segments::file::attachment_directory_position(s);
     let mut at = first;
-    let mut k: u64 = 0;
-    while k < n {
+    for k in 0..n {
         let q = attachments::attachment_position(s, attachments::attachment_entry(t, k));
         at += pack::segment_size(attachment_content_size(s, q));
-        k += 1;
     }
     at
 }
@@ -198,27 +191,19 @@ pub fn new_places(s: &[u8]) -> Places
 // ---- refusal 36
 
 // How many segments the new file has.
-fn segment_count(s: &[u8], tiles: u64, attachments: u64) -> u64
-    requires { AcceptedFile s.now × (tiles ≡ tile_count s.now) × (attachments ≡ attachment_count s.now) }
+fn segment_count(s: &[u8], places: Places) -> u64
+    requires { AcceptedFile s.now × PlacesAre s.now places }
     ensures { result ≡ length (new_segments s.now) }
 {
     let m = if_named(segments::file::metadata_position(s), 1);
     let t = if_named(segments::file::attachment_directory_position(s), 1);
-    2 + tiles + m + t + attachments
+    2 + places.tiles + m + t + places.attachments
 }
 
 // Whether the new file would have over 8,192 segments or 2^40 bytes.
-pub fn too_large(s: &[u8], p: Places) -> bool
-    requires { AcceptedFile s.now × PlacesAre s.now p }
+pub fn too_large(s: &[u8], places: Places) -> bool
+    requires { AcceptedFile s.now × PlacesAre s.now places }
     ensures { result ≡ too_large s.now }
 {
-    let tiles = p.tiles;
-    let attachments = p.attachments;
-    if 8192 < segment_count(s, tiles, attachments) {
-        return true;
-    }
-    if 1099511627776 < p.end {
-        return true;
-    }
-    false
+    8192 < segment_count(s, places) || 1 << 40 < places.end
 }

@@ -18,6 +18,7 @@ use crate::sizes::{
     Places, attachment_content_size, attachment_directory_size, directory_size, entry_size,
     if_named, metadata_content_size, parts_size, sub_block_size,
 };
+use segments::kinds::Kind;
 
 // ---- the file segment
 
@@ -45,22 +46,23 @@ fn put_file_content(
 }
 
 // Puts the file segment.
-fn put_file(out: &mut [u8], s: &[u8], metadata: u64, attachments: u64)
-    requires { (112 ≤ length s.now) × (544 ≤ length out.old) × (metadata ≡ new_metadata s.now) × (attachments ≡ new_attachment_directory s.now) }
+fn put_file(out: &mut [u8], s: &[u8], places: Places)
+    requires { RepackRoom s.now out.old places }
     ensures { out.new ≡ put out.old 0 (segment_bytes (file_segment s.now)) }
 {
-    let m = if_named(segments::file::metadata_position(s), metadata);
+    let m = if_named(segments::file::metadata_position(s), places.metadata);
     let t = if_named(
         segments::file::attachment_directory_position(s),
-        attachments,
+        places.attachment_directory,
     );
-    pack::put_header(out, 0, b"ZISRAWFILE\0\0\0\0\0\0", 512);
+    pack::put_header(out, 0, Kind::File.name(), 512);
     put_file_content(out, 32, s, 544, m, t);
 }
 
 // ---- the directory
 
 // Puts the entry at e, whose sub-block is to stand at `position`.
+#[tactic(auto, unfolding(format::specs::Entry::next_entry, repacked::specs::NewFile::entry_size))]
 fn put_entry(out: &mut [u8], p: u64, s: &[u8], e: u64, position: u64)
     requires { Listed s.now e × (p + entry_size s.now e ≤ length out.old) }
     ensures { out.new ≡ put out.old p (moved_entry s.now e position) }
@@ -73,39 +75,36 @@ fn put_entry(out: &mut [u8], p: u64, s: &[u8], e: u64, position: u64)
     pack::put_part(out, p + 28, s, e + 28, 4 + 20 * n);
 }
 
-// Puts the entries of the n tiles, of which the first sub-block is to stand at `first`.
-fn put_entries(out: &mut [u8], p: u64, s: &[u8], n: u64, first: u64)
-    requires accepted_file { AcceptedFile s.now × (n ≡ tile_count s.now) × (first ≡ new_block s.now 0) }
-    requires n_in_bounds { p + entries_size s.now n ≤ length out.old }
-    ensures { out.new ≡ put out.old p (joined n (new_entry s.now)) }
+// Puts the entries of the tiles.
+fn put_entries(out: &mut [u8], p: u64, s: &[u8], places: Places)
+    requires repack_room { RepackRoom s.now out.old places }
+    requires in_bounds { p + entries_size s.now places.tiles ≤ length out.old }
+    ensures { out.new ≡ put out.old p (joined places.tiles (new_entry s.now)) }
 {
     let mut e = directory::first_entry(s);
     let mut at = p;
-    let mut position = first;
-    let mut k: u64 = 0;
-    while k < n {
+    let mut position = places.block;
+    for _k in 0..places.tiles {
         put_entry(out, at, s, e, position);
         let q = entries::file_position(s, e);
         at += entry_size(s, e);
         position += pack::segment_size(sub_block_size(s, e, q));
         e = entries::next_entry(s, e);
-        k += 1;
     }
 }
 
-// Puts the directory.
-fn put_directory(out: &mut [u8], p: u64, s: &[u8], n: u64, first: u64)
-    requires accepted_file { AcceptedFile s.now × (n ≡ tile_count s.now) × (first ≡ new_block s.now 0) }
-    requires s_in_bounds { p + segment_size (directory_size s.now) ≤ length out.old }
-    ensures { out.new ≡ put out.old p (segment_bytes (directory_segment s.now)) }
+// Puts the directory, which stands behind the file segment.
+fn put_directory(out: &mut [u8], s: &[u8], places: Places)
+    requires { RepackRoom s.now out.old places }
+    ensures { out.new ≡ put out.old 544 (segment_bytes (directory_segment s.now)) }
 {
-    let size = directory_size(s, n);
+    let size = directory_size(s, places.tiles);
     let d = segments::file::directory_position(s);
-    pack::put_header(out, p, b"ZISRAWDIRECTORY\0", size);
-    pack::put_part(out, p + 32, s, d + 32, 4);
-    pack::put_zeros(out, p + 36, 124);
-    put_entries(out, p + 160, s, n, first);
-    pack::put_padding(out, p + 32 + size, size);
+    pack::put_header(out, 544, Kind::Directory.name(), size);
+    pack::put_part(out, 576, s, d + 32, 4);
+    pack::put_zeros(out, 580, 124);
+    put_entries(out, 704, s, places);
+    pack::put_padding(out, 576 + size, size);
 }
 
 // ---- the sub-blocks
@@ -126,30 +125,29 @@ fn put_block_content(out: &mut [u8], p: u64, s: &[u8], e: u64, q: u64, position:
 }
 
 // Puts it as a segment at p.
+#[tactic(auto, unfolding(pack::specs::Pack::segment_size, pack::specs::Pack::allocated))]
 fn put_block(out: &mut [u8], p: u64, s: &[u8], e: u64, q: u64)
     requires { Filled s.now e s.now q × (length s.now ≤ 2 ^ 40) × (p + segment_size (sub_block_size s.now e q) ≤ length out.old) }
     ensures { out.new ≡ put out.old p (segment_bytes (record { name = name_sub_block; content = sub_block_content s.now e q p })) }
 {
     let size = sub_block_size(s, e, q);
-    pack::put_header(out, p, b"ZISRAWSUBBLOCK\0\0", size);
+    pack::put_header(out, p, Kind::SubBlock.name(), size);
     put_block_content(out, p + 32, s, e, q, p);
     pack::put_padding(out, p + 32 + size, size);
 }
 
-// Puts those of the n tiles, one after the other.
-fn put_blocks(out: &mut [u8], p: u64, s: &[u8], n: u64)
-    requires { AcceptedFile s.now × (n ≡ tile_count s.now) × (p ≡ new_block s.now 0) × (new_block s.now n ≤ length out.old) }
-    ensures { out.new ≡ put out.old p (packed (each n (block_segment s.now))) }
+// Puts those of the tiles, one after the other.
+fn put_blocks(out: &mut [u8], s: &[u8], places: Places)
+    requires { RepackRoom s.now out.old places }
+    ensures { out.new ≡ put out.old places.block (packed (each places.tiles (block_segment s.now))) }
 {
     let mut e = directory::first_entry(s);
-    let mut at = p;
-    let mut k: u64 = 0;
-    while k < n {
+    let mut at = places.block;
+    for _k in 0..places.tiles {
         let q = entries::file_position(s, e);
         put_block(out, at, s, e, q);
         at += pack::segment_size(sub_block_size(s, e, q));
         e = entries::next_entry(s, e);
-        k += 1;
     }
 }
 
@@ -172,21 +170,20 @@ fn put_metadata_at(out: &mut [u8], p: u64, s: &[u8], m: u64)
     ensures { out.new ≡ put out.old p (segment_bytes (metadata_segment s.now)) }
 {
     let size = metadata_content_size(s, m);
-    pack::put_header(out, p, b"ZISRAWMETADATA\0\0", size);
+    pack::put_header(out, p, Kind::Metadata.name(), size);
     put_metadata_content(out, p + 32, s, m, size - 256);
     pack::put_padding(out, p + 32 + size, size);
 }
 
 // Puts the metadata segment, if there is one.
-fn put_metadata(out: &mut [u8], p: u64, s: &[u8])
-    requires { AcceptedFile s.now × (p ≡ new_metadata s.now) × (new_attachment_directory s.now ≤ length out.old) }
-    ensures { out.new ≡ put out.old p (packed (if_named (metadata_position s.now) (metadata_segment s.now ∷ []) [])) }
+fn put_metadata(out: &mut [u8], s: &[u8], places: Places)
+    requires { RepackRoom s.now out.old places }
+    ensures { out.new ≡ put out.old places.metadata (packed (if_named (metadata_position s.now) (metadata_segment s.now ∷ []) [])) }
 {
     let m = segments::file::metadata_position(s);
-    if m == 0 {
-        return;
+    if m != 0 {
+        put_metadata_at(out, places.metadata, s, m);
     }
-    put_metadata_at(out, p, s, m);
 }
 
 // ---- the attachment directory
@@ -202,57 +199,54 @@ fn put_attachment_entry(out: &mut [u8], p: u64, s: &[u8], e: u64, position: u64)
     pack::put_part(out, p + 20, s, e + 20, 108);
 }
 
-// Puts the n entries of the attachment directory at t, of which the first attachment is to stand at `first`.
-fn put_attachment_entries(out: &mut [u8], p: u64, s: &[u8], t: u64, n: u64, first: u64)
-    requires accepted_file { AcceptedFile s.now × (t ≡ attachment_directory_position s.now) × (n ≡ attachment_count s.now) × (first ≡ new_attachment s.now 0) }
-    requires n_in_bounds { p + 128 * n ≤ length out.old }
-    ensures { out.new ≡ put out.old p (joined n (new_attachment_entry s.now)) }
+// Puts the entries of the attachment directory at t.
+fn put_attachment_entries(out: &mut [u8], p: u64, s: &[u8], t: u64, places: Places)
+    requires repack_room { RepackRoom s.now out.old places }
+    requires in_bounds { (t ≡ attachment_directory_position s.now) × (p + 128 * places.attachments ≤ length out.old) }
+    ensures { out.new ≡ put out.old p (joined places.attachments (new_attachment_entry s.now)) }
 {
-    let mut position = first;
-    let mut k: u64 = 0;
-    while k < n {
+    let mut position = places.attachment;
+    for k in 0..places.attachments {
         let e = attachments::attachment_entry(t, k);
         put_attachment_entry(out, p + 128 * k, s, e, position);
         let q = attachments::attachment_position(s, e);
         position += pack::segment_size(attachment_content_size(s, q));
-        k += 1;
     }
 }
 
 // Puts the content of the attachment directory at t.
-fn put_attachment_directory_content(out: &mut [u8], p: u64, s: &[u8], t: u64, n: u64, first: u64)
-    requires accepted_file { AcceptedFile s.now × (t ≡ attachment_directory_position s.now) × (t ≡ 0 → ⊥) × (n ≡ attachment_count s.now) × (first ≡ new_attachment s.now 0) }
-    requires n_in_bounds { p + 256 + 128 * n ≤ length out.old }
-    ensures { out.new ≡ put out.old p (attachment_directory_content s.now t (joined n (new_attachment_entry s.now))) }
+fn put_attachment_directory_content(out: &mut [u8], p: u64, s: &[u8], t: u64, places: Places)
+    requires repack_room { RepackRoom s.now out.old places }
+    requires in_bounds { (t ≡ attachment_directory_position s.now) × (t ≡ 0 → ⊥) × (p + 256 + 128 * places.attachments ≤ length out.old) }
+    ensures { out.new ≡ put out.old p (attachment_directory_content s.now t (joined places.attachments (new_attachment_entry s.now))) }
 {
     pack::put_part(out, p, s, t + 32, 4);
     pack::put_zeros(out, p + 4, 252);
-    put_attachment_entries(out, p + 256, s, t, n, first);
+    put_attachment_entries(out, p + 256, s, t, places);
 }
 
 // Puts the attachment directory at t.
-fn put_attachment_directory_at(out: &mut [u8], p: u64, s: &[u8], t: u64, n: u64, first: u64)
-    requires accepted_file { AcceptedFile s.now × (t ≡ attachment_directory_position s.now) × (t ≡ 0 → ⊥) × (n ≡ attachment_count s.now) × (first ≡ new_attachment s.now 0) }
-    requires n_in_bounds { p + segment_size (attachment_directory_size n) ≤ length out.old }
-    ensures { out.new ≡ put out.old p (segment_bytes (attachment_directory_segment s.now)) }
+fn put_attachment_directory_at(out: &mut [u8], s: &[u8], t: u64, places: Places)
+    requires repack_room { RepackRoom s.now out.old places }
+    requires named { (t ≡ attachment_directory_position s.now) × (t ≡ 0 → ⊥) }
+    ensures { out.new ≡ put out.old places.attachment_directory (segment_bytes (attachment_directory_segment s.now)) }
 {
-    let size = attachment_directory_size(n);
-    pack::put_header(out, p, b"ZISRAWATTDIR\0\0\0\0", size);
-    put_attachment_directory_content(out, p + 32, s, t, n, first);
+    let p = places.attachment_directory;
+    let size = attachment_directory_size(places.attachments);
+    pack::put_header(out, p, Kind::AttachmentDirectory.name(), size);
+    put_attachment_directory_content(out, p + 32, s, t, places);
     pack::put_padding(out, p + 32 + size, size);
 }
 
 // Puts the attachment directory, if there is one.
-fn put_attachment_directory(out: &mut [u8], p: u64, s: &[u8], n: u64, first: u64)
-    requires accepted_file { AcceptedFile s.now × (p ≡ new_attachment_directory s.now) × (n ≡ attachment_count s.now) × (first ≡ new_attachment s.now 0) }
-    requires s_in_bounds { new_attachment s.now 0 ≤ length out.old }
-    ensures { out.new ≡ put out.old p (packed (if_named (attachment_directory_position s.now) (attachment_directory_segment s.now ∷ []) [])) }
+fn put_attachment_directory(out: &mut [u8], s: &[u8], places: Places)
+    requires { RepackRoom s.now out.old places }
+    ensures { out.new ≡ put out.old places.attachment_directory (packed (if_named (attachment_directory_position s.now) (attachment_directory_segment s.now ∷ []) [])) }
 {
     let t = segments::file::attachment_directory_position(s);
-    if t == 0 {
-        return;
+    if t != 0 {
+        put_attachment_directory_at(out, s, t, places);
     }
-    put_attachment_directory_at(out, p, s, t, n, first);
 }
 
 // ---- the attachments
@@ -276,47 +270,45 @@ fn put_attachment(out: &mut [u8], p: u64, s: &[u8], e: u64, q: u64)
     ensures { out.new ≡ put out.old p (segment_bytes (record { name = name_attachment; content = attachment_content s.now e q p })) }
 {
     let size = attachment_content_size(s, q);
-    pack::put_header(out, p, b"ZISRAWATTACH\0\0\0\0", size);
+    pack::put_header(out, p, Kind::Attachment.name(), size);
     put_attachment_content(out, p + 32, s, e, q, size - 256, p);
     pack::put_padding(out, p + 32 + size, size);
 }
 
-// Puts the n attachments, one after the other.
-fn put_attachments(out: &mut [u8], p: u64, s: &[u8], n: u64)
-    requires { AcceptedFile s.now × (n ≡ attachment_count s.now) × (p ≡ new_attachment s.now 0) × (new_attachment s.now n ≤ length out.old) }
-    ensures { out.new ≡ put out.old p (packed (each n (attachment_segment s.now))) }
+// Puts the attachments, one after the other.
+fn put_attachments(out: &mut [u8], s: &[u8], places: Places)
+    requires { RepackRoom s.now out.old places }
+    ensures { out.new ≡ put out.old places.attachment (packed (each places.attachments (attachment_segment s.now))) }
 {
     let t = segments::file::attachment_directory_position(s);
-    let mut at = p;
-    let mut k: u64 = 0;
-    while k < n {
+    let mut at = places.attachment;
+    for k in 0..places.attachments {
         let e = attachments::attachment_entry(t, k);
         let q = attachments::attachment_position(s, e);
         put_attachment(out, at, s, e, q);
         at += pack::segment_size(attachment_content_size(s, q));
-        k += 1;
     }
 }
 
 // ---- the whole file
 
 // Puts the segments behind the sub-blocks.
-fn put_annexes(out: &mut [u8], s: &[u8], p: Places)
-    requires { RepackRoom s.now out.old p }
+fn put_annexes(out: &mut [u8], s: &[u8], places: Places)
+    requires { RepackRoom s.now out.old places }
     ensures { out.new ≡ put out.old (new_metadata s.now) (packed (annex_segments s.now)) }
 {
-    put_metadata(out, p.metadata, s);
-    put_attachment_directory(out, p.attachment_directory, s, p.attachments, p.attachment);
-    put_attachments(out, p.attachment, s, p.attachments);
+    put_metadata(out, s, places);
+    put_attachment_directory(out, s, places);
+    put_attachments(out, s, places);
 }
 
 // Puts the new file at the start of the buffer.
-pub fn put_new_file(out: &mut [u8], s: &[u8], p: Places)
-    requires { RepackRoom s.now out.old p }
+pub fn put_new_file(out: &mut [u8], s: &[u8], places: Places)
+    requires { RepackRoom s.now out.old places }
     ensures { out.new ≡ put out.old 0 (repacked s.now) }
 {
-    put_file(out, s, p.metadata, p.attachment_directory);
-    put_directory(out, 544, s, p.tiles, p.block);
-    put_blocks(out, p.block, s, p.tiles);
-    put_annexes(out, s, p);
+    put_file(out, s, places);
+    put_directory(out, s, places);
+    put_blocks(out, s, places);
+    put_annexes(out, s, places);
 }

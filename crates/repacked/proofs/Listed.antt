@@ -17,7 +17,7 @@ use Rattle.format.specs.Attachments.{attachment_count}
 use Rattle.format.specs.Checks.{first}
 use Rattle.format.specs.Rules.{checks, verdict, AcceptedFile}
 use Rattle.format.specs.WellFormed.{Among, Names}
-use Rattle.format.specs.declared.Verdict.TheVariants.{Accepted}
+use Rattle.format.specs.Checks.{Accepted}
 use Rattle.format.proofs.Below.{by_bool, none}
 use Rattle.format.proofs.Firsts.{first-both, first-passed}
 use Rattle.pack.specs.Pack.{Segment, packed, each}
@@ -163,7 +163,7 @@ module _ (bs : List ℕ) where
 
 pub size-parts : (sc : Scan) → size_verdict sc ≡ Accepted → (verdict sc ≡ Accepted) × (too_large sc.file ≡ false)
 unfolding size_verdict verdict
-size-parts sc e = let both = first-both (checks sc) _ e in (both.0, (first-passed (too_large sc.file) 36 0 Accepted both.1).0)
+size-parts sc e = let both = first-both (checks sc) _ e in (both.0, (first-passed (too_large sc.file) _ Accepted both.1).0)
 
 module _ (sc : Scan) (e : size_verdict sc ≡ Accepted) where
   pub scan-tiles : Tiles (new_segments sc.file)

@@ -12,7 +12,7 @@ use Rattle.format.specs.Bytes.{any_of}
 use Rattle.format.specs.File.{attachment_directory_position}
 use Rattle.format.specs.Attachments.{attachment_count}
 use Rattle.format.specs.Rules.{checks, verdict}
-use Rattle.format.specs.declared.Verdict.TheVariants.{Accepted}
+use Rattle.format.specs.Checks.{Accepted}
 use Rattle.format.proofs.Below.{by_bool}
 use Rattle.format.proofs.Firsts.{first-pass, first-stop}
 use Rattle.judge.proofs.AcceptedFile.{accepted-under}
@@ -57,7 +57,7 @@ all-refusals sc out =
     let bs = sc.file in
     let all : verdict sc ≡ Accepted → Kept bs = λ a. kept bs (accepted-under bs sc.release a) in
     record {
-      own = λ n p e. (first-stop (checks sc) _ n p e, first-stop (checks sc) _ n p e);
+      own = λ f p e. (first-stop (checks sc) _ _ e, first-stop (checks sc) _ _ e);
       large = λ a l.
           let big = large_is bs (all a) l in
           (first-pass (checks sc) _ a ∙ rw big, first-pass (checks sc) _ a ∙ rw big);

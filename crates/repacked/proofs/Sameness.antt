@@ -13,7 +13,7 @@ use Rattle.format.specs.SubBlock.{metadata_place}
 use Rattle.format.specs.Directory.{tile_count, entry_place}
 use Rattle.format.specs.Attachments.{attachment_entry_count, attachment_count}
 use Rattle.format.specs.Rules.{verdict}
-use Rattle.format.specs.declared.Verdict.TheVariants.{Accepted}
+use Rattle.format.specs.Checks.{Accepted}
 use Rattle.format.proofs.Below.{by_bool}
 use Rattle.equivalent.specs.Same.{SameBlock, SameMetadata, SameAttachments, SameScans}
 use Rattle.equivalent.proofs.Entries.{count_same}

@@ -13,7 +13,7 @@ use Rattle.format.specs.File.{major, directory_position}
 use Rattle.format.specs.Directory.{entry_count, tile_count, directory_bad}
 use Rattle.format.specs.Rules.{verdict}
 use Rattle.format.specs.WellFormed.{Chain, Names, WellFormed}
-use Rattle.format.specs.declared.Verdict.TheVariants.{Accepted}
+use Rattle.format.specs.Checks.{Accepted}
 use Rattle.format.proofs.Below.{none}
 use Rattle.format.proofs.Flags.{any-skip, any_none}
 use Rattle.format.proofs.SegmentLaws.{walked-places}

@@ -9,13 +9,14 @@ use Rattle.format.specs.Directory.{tile_count}
 use Rattle.format.specs.Attachments.{attachment_count}
 use Rattle.format.specs.Rules.{verdict}
 use Rattle.format.specs.declared.Release.{Release}
-use Rattle.format.specs.declared.Verdict.TheVariants.{Accepted, Refused}
+use Rattle.format.specs.Checks.{Accepted, Refused}
 use Rattle.equivalent.specs.Same.{SameScans}
 use Rattle.equivalent.specs.Claims.{Equivalent, SameUnder}
 use Rattle.pack.specs.Pack.{Segment, allocated, segment_size, segment_bytes, each, places_from}
 use Rattle.repacked.specs.NewFile.{if_named, entry_block, entry_attachment, new_directory, new_block, new_metadata, new_attachment_directory, new_attachment, new_end}
 use Rattle.repacked.specs.NewFile.{new_segments, repacked, repacked_scan}
 use Rattle.repacked.specs.Refusals.{size_verdict, repack_verdict}
+use Rattle.format.specs.declared.Fault.{Fault}
 
 -- ---- the refusals, of a scan and a lent buffer of a length
 
@@ -30,12 +31,12 @@ pub record Small (bs : List ℕ) : Type 0 where
 
 pub record RefusalClaims (sc : Scan) (out : ℕ) : Type 0 where
   -- the file's own refusal goes first
-  pub own : (n p : ℕ) → verdict sc ≡ Refused n p → (size_verdict sc ≡ Refused n p) × (repack_verdict sc out ≡ Refused n p)
+  pub own : (f : Fault) (p : ℕ) → verdict sc ≡ Refused f p → (size_verdict sc ≡ Refused f p) × (repack_verdict sc out ≡ Refused f p)
   -- of an accepted file: 36 where the new one would have over 8,192 segments or 2^40 bytes; else 25 where the buffer is shorter; else none
   pub large : verdict sc ≡ Accepted → (8192 < new_count sc.file) ⊎ (2 ^ 40 < new_end sc.file)
-      → (size_verdict sc ≡ Refused 36 0) × (repack_verdict sc out ≡ Refused 36 0)
+      → (size_verdict sc ≡ Refused Fault.RepackTooLarge 0) × (repack_verdict sc out ≡ Refused Fault.RepackTooLarge 0)
   pub small : verdict sc ≡ Accepted → Small sc.file → size_verdict sc ≡ Accepted
-  pub short : verdict sc ≡ Accepted → Small sc.file → out < new_end sc.file → repack_verdict sc out ≡ Refused 25 0
+  pub short : verdict sc ≡ Accepted → Small sc.file → out < new_end sc.file → repack_verdict sc out ≡ Refused Fault.RepackBuffer 0
   pub fits : verdict sc ≡ Accepted → Small sc.file → new_end sc.file ≤ out → repack_verdict sc out ≡ Accepted
   -- these are the new file's numbers
   pub length_is : verdict sc ≡ Accepted → length (repacked sc.file) ≡ new_end sc.file

@@ -135,6 +135,10 @@ full-bytes zero v i = omega arith
 full-bytes (suc n) v zero = full-lt v
 full-bytes (suc n) v (suc i) = full-bytes n v i
 
+pub low_byte : (v : Bool) → full_word v % 256 ≡ full v
+low_byte true = refl
+low_byte false = refl
+
 full-word : (v : Bool) → u64_at (replicate 8 (full v)) 0 ≡ full_word v
 unfolding u32_at u64_at
 full-word true = refl

@@ -9,23 +9,14 @@ ghost use Rattle.runs.specs.Run.{Run, full, full_word, differing};
 fn differing_bits(x: u8, v: bool) -> u8
     ensures { result ≡ differing x v }
 {
-    if v {
-        return 255 - x;
-    }
-    x
+    if v { 255 - x } else { x }
 }
 
-// The byte, and the word of eight, whose bits are all v.
-fn full_byte(v: bool) -> u8
-    ensures { result ≡ full v }
-{
-    if v { 255 } else { 0 }
-}
-
+// The word of eight bytes whose bits are all v.
 fn full_word(v: bool) -> u64
     ensures { result ≡ full_word v }
 {
-    if v { 18446744073709551615 } else { 0 }
+    if v { u64::MAX } else { 0 }
 }
 
 // The end of the run of bits v from bit number a of the byte x on.
@@ -34,7 +25,7 @@ fn run_in(x: u8, a: usize, v: bool) -> usize
     ensures { Run (bit_in x) a 8 v result }
 {
     let rest = differing_bits(x, v) as u16 % (256u16 >> a);
-    u8::leading_zeros(rest as u8) as usize
+    (rest as u8).leading_zeros() as usize
 }
 
 // Passes words of eight bytes whose bits are all v, from byte k on and not past e.
@@ -43,14 +34,14 @@ fn pass_words(m: &[u8], k: usize, e: usize, v: bool) -> usize
     ensures { (k ≤ result) × (result ≤ e) × ((i : ℕ) → k ≤ i → i < result → get_or m.now i 0 ≡ full v) }
 {
     let word = full_word(v);
-    let mut i = k;
-    while 8 <= e - i {
+    let words = (e - k) / 8;
+    for j in 0..words {
+        let i = k + 8 * j;
         if fields::u64_at(m, i as u64) != word {
             return i;
         }
-        i += 8;
     }
-    i
+    k + 8 * words
 }
 
 // The end of the run of bytes whose bits are all v, from byte k on and not past e.
@@ -58,15 +49,14 @@ fn pass_bytes(m: &[u8], k: usize, e: usize, v: bool) -> usize
     requires { (k ≤ e) × (e ≤ length m.now) }
     ensures { Run (λ i. eqb (get_or m.now i 0) (full v)) k e true result }
 {
-    let byte = full_byte(v);
-    let mut i = pass_words(m, k, e, v);
-    while i < e {
+    let byte = (full_word(v) % 256) as u8;
+    let from = pass_words(m, k, e, v);
+    for i in from..e {
         if m[i] != byte {
             return i;
         }
-        i += 1;
     }
-    i
+    e
 }
 
 // The end of the run of bits v from the first bit of byte k on, not past bit number e.

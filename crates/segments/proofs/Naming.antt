@@ -1,77 +1,77 @@
--- The index of the walked segment that a position names, by the index of the position in the walk. Assumes nothing.
+-- The index of the walked segment that a position names, by a search among the walked positions. Assumes nothing.
 use Prim.Native.Nat.{ℕ, ◌+◌, ◌≤◌, ◌<◌}
 use mathlib.Core.Path.{◌≡◌, refl, sym, ap, ◌∙◌}
 use mathlib.Core.List.{List}
 use mathlib.Core.Bool.{Bool, true, false, cond, and-false}
 use native.Mathlib.Omega.{arith}
-use lib.ListN.{length, get_or, take}
-use lib.Seq.{length-take-le}
-use lib.Dec.{ltb}
-use borrow.Author.Tests.{lt-ltb, le-ltb}
+use lib.ListN.{length, get_or}
+use Rattle.std.specs.Prelude.{Option, Some, None, is_some, Result, Ok, Err}
+use Rattle.std.specs.List.Sorted.{IsBinarySearchResult}
+use Rattle.std.specs.Ordering.{nat_cmp}
+use Rattle.std.specs.Result.{MatchResult}
+use Rattle.std.proofs.lemmas.List.Sorted.{searched}
+use Rattle.std.proofs.lemmas.Result.{MatchResult-at_ok, MatchResult-at_err}
 use Rattle.format.specs.Bytes.{same_at}
 use Rattle.format.specs.Segments.{walked, member, walked_as}
-use Rattle.format.proofs.Below.{and_both}
-use Rattle.format.proofs.SegmentLaws.{next-is, walked_sized}
-use Rattle.segments.specs.Walk.{WalkTable, index_in, index_as}
-use Rattle.segments.proofs.Search.{index-member, member-index}
+use Rattle.format.proofs.Below.{and_both, by_bool}
+use Rattle.format.proofs.SegmentLaws.{next-is, walked_sized, walked-rising}
+use Rattle.segments.specs.Walk.{index_in, index_as}
+use Rattle.segments.proofs.Search.{index-member, member-index, index-found, member-missed, not-falling}
 
-pub count-is : (bs table : List ℕ) (count : ℕ) → WalkTable bs table count → count ≡ length (walked bs)
-count-is bs table count f = sym (length-take-le count table (omega (arith, f.few, f.size))) ∙ ap length f.holds
+-- ---- k is where the search among the walked positions found q
 
--- ---- k is the index of q in the table
+module _ (bs : List ℕ) (q : ℕ) (r : Result ℕ ℕ) (h : IsBinarySearchResult (λ y. nat_cmp y q) (walked bs) r) where
+  among : MatchResult r (λ i. (i < length (walked bs)) × (get_or (walked bs) i 0 ≡ q))
+      (λ i. (i ≤ length (walked bs)) × ((k : ℕ) → k < i → get_or (walked bs) k 0 < q) × ((k : ℕ) → i ≤ k → k < length (walked bs) → q < get_or (walked bs) k 0))
+  among = searched (walked bs) q r h (not-falling (walked bs) q (walked-rising bs))
 
-module _ (bs table : List ℕ) (count q : ℕ) (f : WalkTable bs table count) (k : ℕ) (e : k ≡ index_in q (take count table)) where
-  index_is : k ≡ index_in q (walked bs)
-  index_is = rw f.holds at e
+  -- it is nowhere
+  pub missed : (i : ℕ) (name : List ℕ) → r ≡ Err i → None ≡ index_as bs q name
+  unfolding index_as walked_as
+  missed i name e = let m = member-missed (walked bs) q (walked-rising bs) i (MatchResult-at_err _ _ i e among) in rw m
 
-  found : (k ≡ count → ⊥) → member q (walked bs) ≡ true
-  found h = member-index (walked bs) q (λ n. h (index_is ∙ (n ∙ sym (count-is bs table count f))))
+  module _ (k : ℕ) (e : r ≡ Ok k) where
+    index_is : index_in q (walked bs) ≡ k
+    index_is = index-found (walked bs) q (walked-rising bs) k (MatchResult-at_ok _ _ k e among)
 
-  -- the name of the segment at q lies in the file
-  pub found_in : (k ≡ count → ⊥) → q + 16 ≤ length bs
-  found_in h = omega (arith, next-is bs q, (walked_sized bs q (found h)).within)
+    found : member q (walked bs) ≡ true
+    found =
+        let f = MatchResult-at_ok _ _ k e among in
+        member-index (walked bs) q (λ n. omega (arith, index_is, f.0))
 
-  module _ (name : List ℕ) where
-    pub not_found : k ≡ count → count ≡ index_as bs q name
-    unfolding index_as
-    not_found h = rw (← index_is, h, ← count-is bs table count f) (go (walked_as bs q name))
-      where
-        go : (b : Bool) → count ≡ cond b count count
-        go true = refl
-        go false = refl
+    -- the name of the segment at q lies in the file
+    pub found_in : q + 16 ≤ length bs
+    found_in = omega (arith, next-is bs q, (walked_sized bs q found).within)
 
-    -- r is whether it is that name
-    module _ (r : Bool) (i : r ≡ same_at bs q name) where
-      pub of-kind : (k ≡ count → ⊥) → r ≡ true → k ≡ index_as bs q name
+    -- t is whether it is of the kind that has that name
+    module _ (name : List ℕ) (t : Bool) (i : t ≡ same_at bs q name) where
+      pub of-kind : t ≡ true → Some k ≡ index_as bs q name
       unfolding index_as walked_as
-      of-kind h t = rw (found h, sym i ∙ t) index_is
+      of-kind j = rw (found, sym i ∙ j, index_is)
 
-      pub of_other : r ≡ false → count ≡ index_as bs q name
+      pub of_other : t ≡ false → None ≡ index_as bs q name
       unfolding index_as walked_as
-      of_other t = rw (sym i ∙ t, and-false (member q (walked bs))) (count-is bs table count f)
+      of_other j = rw (sym i ∙ j, and-false (member q (walked bs)))
 
 -- ---- what the index of a named segment tells
 
 module _ (bs : List ℕ) (q : ℕ) (name : List ℕ) where
-  -- a segment that is named stands at its index
-  pub record Named : Type 0 where
-    pub below : index_as bs q name < length (walked bs)
-    pub stands : get_or (walked bs) (index_as bs q name) 0 ≡ q
-
-  pub named : walked_as bs q name ≡ true → Named
-  unfolding index_as walked_as
-  named e =
-      let n = index-member (walked bs) q (and_both _ _ e).0 in
-      record { below = rw e n.below; stands = rw e n.stands }
-
-  unnamed : walked_as bs q name ≡ false → index_as bs q name ≡ length (walked bs)
+  -- whether a segment is named
+  pub some-named : is_some (index_as bs q name) ≡ walked_as bs q name
   unfolding index_as
-  unnamed e = rw e
+  some-named = by_bool (walked_as bs q name) (λ e. rw e) (λ e. rw e)
 
-  -- the index tells whether a segment is named
-  pub below-named : ltb (index_as bs q name) (length (walked bs)) ≡ walked_as bs q name
-  below-named = go (walked_as bs q name) refl
-    where
-      go : (b : Bool) → walked_as bs q name ≡ b → ltb (index_as bs q name) (length (walked bs)) ≡ b
-      go true e = lt-ltb _ _ (named e).below
-      go false e = let n = unnamed e in le-ltb (index_as bs q name) (length (walked bs)) (omega arith)
+  -- a segment that is named stands at its index
+  pub record Named (k : ℕ) : Type 0 where
+    pub below : k < length (walked bs)
+    pub stands : get_or (walked bs) k 0 ≡ q
+
+  pub named : (k : ℕ) → Some k ≡ index_as bs q name → Named k
+  unfolding index_as walked_as
+  named k e =
+      by_bool (walked_as bs q name)
+      (λ w.
+      let n = index-member (walked bs) q (and_both _ _ w).0 in
+      let i : k ≡ index_in q (walked bs) = let g = rw w at e in cc in
+      record { below = rw i n.below; stands = rw i n.stands })
+      (λ w. let g = rw w at e in let z : ◌≡◌ {A = ℕ} 0 1 = cc in absurd (omega arith))

@@ -1,4 +1,4 @@
--- The index of a position in a list, and its search in a rising one by halving. Assumes nothing.
+-- The index of a position in a list, and what a search in a rising one finds. Assumes nothing.
 use Prim.Native.Nat.{ℕ, zero, suc, ◌+◌, ◌-◌, ◌/◌, ◌≤◌, ◌<◌, suc-le-suc, zero-le}
 use mathlib.Core.Path.{◌≡◌, refl, sym, ◌∙◌}
 use mathlib.Core.Logic.{◌⊎◌, inl, inr, ⊎_elim}
@@ -52,52 +52,26 @@ module _ (l : List ℕ) (q : ℕ) where
       go true e = e
       go false e = absurd (h (index-none (λ i k f. true≢false (sym (member-at l q i k f) ∙ e))))
 
--- of the first n elements of the table t, q is none below lo and none from hi on
-pub record Between (t : List ℕ) (n q lo hi : ℕ) : Type 0 where
-  pub order : lo ≤ hi
-  pub within : hi ≤ n
-  pub below : (i : ℕ) → i < lo → get_or t i 0 < q
-  pub above : (i : ℕ) → hi ≤ i → i < n → q < get_or t i 0
+-- ---- the search by halving in a list that rises
 
-pub start : (t : List ℕ) (n q : ℕ) → Between t n q 0 n
-start t n q = record { order = omega arith; within = omega arith; below = λ i h. absurd (omega arith); above = λ i h k. absurd (omega arith) }
+module _ (l : List ℕ) (q : ℕ) (r : Rising l) where
+  -- an element that is q is the only one
+  pub index-found : (i : ℕ) → (i < length l) × (get_or l i 0 ≡ q) → index_in q l ≡ i
+  index-found i f = index_at l q i f.0 (λ j h e. omega (arith, r j i h f.0)) f.1
 
--- the elements rise
-module _ (t : List ℕ) (n q lo hi : ℕ) (s : (n ≤ 8192) × (length t ≡ 8192)) (r : Rising (take n t)) (b : Between t n q lo hi) where
-  size : length (take n t) ≡ n
-  size = length-take-le n t (omega arith)
-
-  rises : (i j : ℕ) → i < j → j < n → get_or t i 0 < get_or t j 0
-  rises i j h k = omega (arith, r i j h (rw size k), get_or-take n t i 0 (omega arith), get_or-take n t j 0 k)
-
-  pub done : hi ≤ lo → n ≡ index_in q (take n t)
-  done h = sym (index-none (take n t) q (λ i k e. ⊎_elim (λ u. over i k e u) (λ u. under i k e u) (le-or-lt hi i)) ∙ size)
+  -- q stands between what is less and what is more
+  pub member-missed : (i : ℕ)
+      → (i ≤ length l) × ((k : ℕ) → k < i → get_or l k 0 < q) × ((k : ℕ) → i ≤ k → k < length l → q < get_or l k 0) → member q l ≡ false
+  member-missed i f = go (member q l) refl
     where
-      over : (i : ℕ) → i < length (take n t) → get_or (take n t) i 0 ≡ q → hi ≤ i → ⊥
-      over i k e u = let l : i < n = rw size at k in omega (arith, b.above i u l, get_or-take n t i 0 l)
+      go : (b : Bool) → member q l ≡ b → member q l ≡ false
+      go true e =
+          let m = index-member l q e in
+          ⊎_elim (λ (u : i ≤ index_in q l). absurd (omega (arith, f.2 (index_in q l) u m.below, m.stands)))
+          (λ (u : index_in q l < i). absurd (omega (arith, f.1 (index_in q l) u, m.stands)))
+          (le-or-lt i (index_in q l))
+      go false e = e
 
-      under : (i : ℕ) → i < length (take n t) → get_or (take n t) i 0 ≡ q → i < hi → ⊥
-      under i k e u = omega (arith, b.below i (omega arith), get_or-take n t i 0 (rw size at k))
-
-  -- one turn: the element in the middle, at m, is q, below q or above it
-  module _ (l : lo < hi) (m : ℕ) (e : m ≡ lo + (hi - lo) / 2) where
-    pub met : get_or t m 0 ≡ q → m ≡ index_in q (take n t)
-    met h =
-        let k : m < n = omega arith in
-        sym (index_at (take n t) q m (rw size k) (λ i j f. omega (arith, rises i m j k, get_or-take n t i 0 (omega arith))) (get_or-take n t m 0 k ∙ h))
-
-    pub up : get_or t m 0 < q → Between t n q (m + 1) hi
-    up h = record {
-      order = omega arith;
-      within = b.within;
-      below = λ i k. ⊎_elim (λ (f : i ≡ m). rw f h) (λ (j : i < m). omega (arith, rises i m j (omega arith))) (eq-or-lt_of_le (omega arith));
-      above = b.above;
-    }
-
-    pub down : (get_or t m 0 ≡ q → ⊥) → q ≤ get_or t m 0 → Between t n q lo m
-    down u h = record {
-      order = omega arith;
-      within = omega arith;
-      below = b.below;
-      above = λ i k j. ⊎_elim (λ (f : m ≡ i). rw (← f) (omega (arith, u))) (λ (f : m < i). omega (arith, rises m i f j)) (eq-or-lt_of_le k);
-    }
+  -- what the library's search asks of the list
+  pub not-falling : (i j : ℕ) → i ≤ j → j < length l → get_or l i 0 ≤ get_or l j 0
+  not-falling i j h k = ⊎_elim (λ (e : i ≡ j). rw e (omega arith)) (λ (u : i < j). omega (arith, r i j u k)) (eq-or-lt_of_le h)

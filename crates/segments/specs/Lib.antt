@@ -1,2 +1,3 @@
--- What a walk answers.
+-- The kinds of segment, and what a walk over a file's segments answers.
+pub mod Kinds
 pub mod Walk

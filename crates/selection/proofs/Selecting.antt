@@ -1,53 +1,46 @@
 -- The loops that select: over the letters of an entry, and over the entries of an accepted file. Assumes nothing.
-use Prim.Native.Nat.{ℕ, ◌+◌, ◌≤◌, ◌<◌}
-use mathlib.Core.Path.{◌≡◌, refl, sym, ◌∙◌}
-use mathlib.Core.List.{List}
-use mathlib.Core.Bool.{Bool, true, false, cond, not}
+use Prim.Native.Nat.{ℕ, zero, suc, ◌+◌, ◌≤◌, ◌<◌}
+use mathlib.Core.Path.{◌≡◌, refl, sym, ap, ◌∙◌}
+use mathlib.Core.List.{List, ◌∷◌, [], ◌++◌}
+use mathlib.Core.Bool.{Bool, true, false, cond, not, and-true}
 use mathlib.Core.Logic.{⊎_elim}
 use native.Mathlib.Nat.{eq-or-lt_of_le}
 use native.Mathlib.Omega.{arith}
 use lib.ListN.{length, get_or, set, length-set}
 use lib.IntN.{ℤ}
 use lib.Seq.{get_or-set_same, get_or-set_other}
+use Rattle.std.specs.List.{list_all, range_with_len}
+use Rattle.std.proofs.lemmas.List.Folds.{list_all-append}
 use Rattle.format.specs.Bytes.{all_below}
 use Rattle.format.specs.Entry.{next_entry, is_pyramid}
 use Rattle.format.specs.Directory.{tile_count, entry_place}
 use Rattle.format.specs.Rules.{AcceptedFile}
-use Rattle.format.proofs.Below.{all-zero, all_more, all-fails}
-use Rattle.format.proofs.Flags.{is_false, is-true-not, is-false-not}
+use Rattle.format.proofs.Flags.{is-true-not, is-false-not}
 use Rattle.judge.proofs.AcceptedFile.{tiled-file}
 use Rattle.judge.proofs.EntryLoop.{AtEntry, at-start, at_next}
 use Rattle.selection.specs.Select.{has_start, selects}
 use Rattle.selection.specs.Table.{Selection}
 
--- ---- the loop over the letters: the tile of the entry at e starts in those below the i-th where the question says
+-- ---- the letters, which a range goes through
 
-pub record Fitting (bs : List ℕ) (e : ℕ) (starts : List ℤ) (any_scene : Bool) (i : ℕ) : Type 0 where
-  pub count : i ≤ 26
-  pub fits : all_below i (λ k. has_start bs e starts any_scene (65 + k)) ≡ true
+range-last : (a n j : ℕ) → a + n ≡ j → range_with_len a (suc n) ≡ range_with_len a n ++ j ∷ []
+range-last a zero j e = let f : a ≡ j = omega arith in rw f
+range-last a (suc n) j e = ap (λ l. a ∷ l) (range-last (a + 1) n j (omega arith))
 
-module _ (bs : List ℕ) (e : ℕ) (starts : List ℤ) (any_scene : Bool) where
-  pub fitting-start : Fitting bs e starts any_scene 0
-  fitting-start = record { count = omega arith; fits = all-zero _ }
+all-range : (a n : ℕ) (t : ℕ → Bool) → list_all t (range_with_len a n) ≡ all_below n (λ i. t (a + i))
+unfolding all_below
+all-range a zero t = refl
+all-range a (suc n) t = ap (list_all t) (range-last a n (a + n) refl) ∙ rw (list_all-append, all-range a n t, and-true (t (a + n)))
 
-  module _ (i : ℕ) (w : Fitting bs e starts any_scene i) where
-    -- r says whether it does in the next one
-    module _ (r : Bool) (j : r ≡ has_start bs e starts any_scene (65 + i)) (l : i < 26) where
-      pub fitting-next : not r ≡ false → Fitting bs e starts any_scene (i + 1)
-      fitting-next h = record { count = omega arith; fits = all_more i _ w.fits (is-true-not r _ j h) }
+-- p says whether it is a pyramid tile
+module _ (bs : List ℕ) (e : ℕ) (starts : List ℤ) (any_scene p : Bool) (h : p ≡ is_pyramid bs e) where
+  pub letters-fit : not p ≡ true → list_all (has_start bs e starts any_scene) (range_with_len 65 26) ≡ selects bs starts any_scene e
+  unfolding selects
+  letters-fit n = rw (is-false-not p _ h n) (all-range 65 26 (has_start bs e starts any_scene))
 
-      pub fitting-fails : not r ≡ true → false ≡ selects bs starts any_scene e
-      unfolding selects
-      fitting-fails h = go (is_pyramid bs e)
-        where
-          go : (b : Bool) → false ≡ cond b false (all_below 26 (λ k. has_start bs e starts any_scene (65 + k)))
-          go true = refl
-          go false = sym (all-fails 26 i _ l (is-false-not r _ j h))
-
-    -- p says whether it is a pyramid tile
-    pub fitting-end : (p : Bool) → p ≡ is_pyramid bs e → p ≡ false → 26 ≤ i → true ≡ selects bs starts any_scene e
-    unfolding selects
-    fitting-end p g n h = let f : i ≡ 26 = omega (arith, w.count) in rw (is_false p _ g n) (sym (rw f at w.fits))
+  pub pyramid-none : not p ≡ false → not p ≡ selects bs starts any_scene e
+  unfolding selects
+  pyramid-none n = rw (is-true-not p _ h n, n)
 
 -- ---- the loop over the entries of an accepted file: those below k are in the table, and the next is at e
 

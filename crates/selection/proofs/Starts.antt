@@ -2,11 +2,11 @@
 use Prim.Native.Nat.{ℕ, ◌+◌, ◌-◌, ◌≤◌, ◌<◌}
 use mathlib.Core.Path.{◌≡◌, sym, ◌∙◌}
 use mathlib.Core.List.{List}
-use mathlib.Core.Bool.{Bool, true, false, cond, ◌&&◌, and-false, true≢false}
+use mathlib.Core.Bool.{Bool, true, false, cond, ◌&&◌, true≢false}
 use native.Mathlib.Omega.{arith}
-use lib.Dec.{leb, ltb}
+use lib.Dec.{eqb, leb, ltb}
 use lib.IntN.{ℤ}
-use borrow.Author.Tests.{lt-ltb, le-ltb, le-leb, lt-leb, ne_eqb, leb-true, ltb-true}
+use borrow.Author.Tests.{lt-ltb, le-ltb, le-leb, lt-leb, eq-eqb, ne_eqb, leb-true, ltb-true, ltb-false}
 use Rattle.format.specs.Bytes.{any_of, any_below, all_below, biased}
 use Rattle.format.specs.Choice.{asked_start, asked_layer}
 use Rattle.format.specs.Entry.{dimension_count, dimensions_bad, has_letter, letter_index, letter_place, letter, start, size}
@@ -27,36 +27,30 @@ starts-some bs e x h =
     (λ l. rw l ((dimensions-ok bs e h).each (letter_index bs e x) (letter-placed bs e x l).index).size-some)
     (λ l. rw l (omega arith))
 
--- the asked start is one of the tile's
-abbrev pub among : List ℕ → ℕ → List ℤ → ℕ → Bool
-among bs e starts x = leb (tile_start bs e x) (asked_start starts x) && ltb (asked_start starts x) (tile_start bs e x + start_count bs e x)
+-- the tile's start a and the asked one q, as they were read of a letter that selects, as r said
+module _ (bs : List ℕ) (e : ℕ) (starts : List ℤ) (any_scene : Bool) (x : ℕ) (r : Bool) (f : r ≡ free any_scene x) (g : r ≡ false)
+    (a q : ℕ) (i : a ≡ tile_start bs e x) (j : q ≡ asked_start starts x) where
+  -- the asked start is one of the tile's
+  among : (b : Bool) → b ≡ (leb a q && ltb q (a + start_count bs e x)) → b ≡ has_start bs e starts any_scene x
+  unfolding has_start
+  among b h = rw (sym f ∙ g, ← i, ← j) h
 
--- of a letter that selects, as r said, this is what was asked
-pub among-is : (bs : List ℕ) (e : ℕ) (starts : List ℤ) (any_scene : Bool) (x : ℕ) (r b : Bool) → r ≡ free any_scene x → r ≡ false
-    → among bs e starts x ≡ b → b ≡ has_start bs e starts any_scene x
-unfolding has_start
-among-is bs e starts any_scene x r b g f h = rw (sym g ∙ f) (sym h)
-
--- the tile's start a and the asked one q, as they were read
-module _ (bs : List ℕ) (e : ℕ) (starts : List ℤ) (x a q : ℕ) (i : a ≡ tile_start bs e x) (j : q ≡ asked_start starts x) where
-  pub start-same : dimensions_bad bs e ≡ false → a ≡ q → among bs e starts x ≡ true
+  pub start-same : dimensions_bad bs e ≡ false → a ≡ q → eqb a q ≡ has_start bs e starts any_scene x
   start-same h k =
       let some = starts-some bs e x h in
-      rw (← i, ← j, le-leb a q (omega arith), lt-ltb q (a + start_count bs e x) (omega arith))
+      among _ (rw (eq-eqb a q k, le-leb a q (omega arith), lt-ltb q (a + start_count bs e x) (omega arith)))
 
-  pub start-before : q < a → among bs e starts x ≡ false
-  start-before k = rw (← i, ← j, lt-leb a q k)
+  pub start-before : (a ≡ q → ⊥) → q ≤ a → ltb a q ≡ has_start bs e starts any_scene x
+  start-before h k = among _ (rw (le-ltb a q k, lt-leb a q (omega arith)))
 
-  pub start-from : a ≤ q → leb (tile_start bs e x) (asked_start starts x) ≡ true
-  start-from k = rw (← i, ← j) (le-leb a q k)
-
-  pub start-among : (n : ℕ) → n ≡ start_count bs e x → a ≤ q → q - a < n → among bs e starts x ≡ true
-  start-among n c k l = rw (← i, ← j, ← c, le-leb a q k, lt-ltb q (a + n) (omega arith))
-
-  pub start-past : (n : ℕ) → n ≡ start_count bs e x → n ≤ q - a → among bs e starts x ≡ false
-  start-past n c l =
-      rw (← i, ← j, ← c)
-      (by_bool (leb a q) (λ t. rw (le-ltb q (a + n) (omega (arith, leb-true a q t)), and-false)) (λ t. rw t))
+  -- n starts of the tile's are there
+  pub start-later : a < q → (n : ℕ) → n ≡ start_count bs e x → ltb (q - a) n ≡ has_start bs e starts any_scene x
+  start-later k n c =
+      among _
+      (rw (← c, le-leb a q (omega arith))
+      (by_bool (ltb (q - a) n)
+      (λ t. rw (t, lt-ltb q (a + n) (omega (arith, ltb-true (q - a) n t))))
+      (λ t. rw (t, le-ltb q (a + n) (omega (arith, ltb-false (q - a) n t))))))
 
 -- a letter that selects, in which the tile has the asked start
 pub has-start : (bs : List ℕ) (e : ℕ) (starts : List ℤ) (any_scene : Bool) (x : ℕ) → free any_scene x ≡ false → has_start bs e starts any_scene x ≡ true

@@ -1,7 +1,8 @@
 -- Laws of settings and of reading them.
 pub mod Numbers
-pub mod Places
 pub mod Finding
+pub mod FoundLines
+pub mod Answering
 pub mod Spelling
 pub mod Lines
 pub mod Commas

@@ -8,8 +8,7 @@ use lib.ListN.{length, drop}
 use lib.Dec.{ltb}
 use borrow.Author.Tests.{ltb-true, lt-ltb, le-ltb}
 use Rattle.format.specs.Bytes.{any_of}
-use Rattle.format.specs.declared.Verdict.{Verdict}
-use Rattle.format.specs.declared.Verdict.TheVariants.{Accepted, Refused}
+use Rattle.format.specs.Checks.{Verdict, Accepted, Refused, number_of, place_of}
 use Rattle.format.proofs.Below.{by_bool, none}
 use Rattle.format.proofs.Firsts.{first-passed}
 use Rattle.text.specs.Text.{line}
@@ -24,6 +23,7 @@ use Rattle.settings.specs.declared.Settings.{Settings}
 use Rattle.settings.proofs.Lines.{long-x, long-y, pitch-line-found, pitch-line-behind, pitch-line-good, pitch-line-right}
 use Rattle.settings.proofs.Lines.{edition-found, edition-behind, edition-good, edition-right, masks-found, masks-good, masks-right}
 use Rattle.settings.proofs.Commas.{comma-place, comma-first, without-place, without-text}
+use Rattle.format.specs.declared.Fault.TheVariants as Fault
 
 -- ---- a text is read as its settings
 
@@ -105,7 +105,7 @@ read-written bs h =
 
 -- by its two rows
 verdict-is : (bs : List ℕ)
-    → settings_verdict bs ≡ cond (ltb (comma_place bs) (length bs)) (Refused 34 (comma_place bs)) (cond (settings_bad bs) (Refused 35 0) Accepted)
+    → settings_verdict bs ≡ cond (ltb (comma_place bs) (length bs)) (Refused Fault.Comma (comma_place bs)) (cond (settings_bad bs) (Refused Fault.Settings 0) Accepted)
 unfolding settings_verdict settings_rows
 verdict-is bs = refl
 
@@ -118,28 +118,28 @@ written-accepted s bs w =
 -- what is accepted is read as settings
 accepted-good : (bs : List ℕ) → settings_verdict bs ≡ Accepted → settings_bad bs ≡ false
 accepted-good bs v =
-    let rest = (first-passed (ltb (comma_place bs) (length bs)) 34 (comma_place bs) _ (sym (verdict-is bs) ∙ v)).1 in
-    (first-passed (settings_bad bs) 35 0 Accepted rest).0
+    let rest = (first-passed (ltb (comma_place bs) (length bs)) _ _ (sym (verdict-is bs) ∙ v)).1 in
+    (first-passed (settings_bad bs) _ Accepted rest).0
 
 -- a comma is refused at the first
-comma-refused : (bs : List ℕ) (p : ℕ) → FirstComma bs p → settings_verdict bs ≡ Refused 34 p
+comma-refused : (bs : List ℕ) (p : ℕ) → FirstComma bs p → settings_verdict bs ≡ Refused Fault.Comma p
 comma-refused bs p f =
     let is : comma_place bs ≡ p = comma-place bs p f in
     verdict-is bs ∙ rw (is, lt-ltb p (length bs) f.within)
 
 -- a verdict of 34 is of the first row
-first-row : (t u : Bool) (c p : ℕ) → cond t (Refused 34 c) (cond u (Refused 35 0) Accepted) ≡ Refused 34 p → (t ≡ true) × (c ≡ p)
-first-row true u c p e = (refl, cc)
-first-row false true c p e = let z : ◌≡◌ {A = ℕ} 34 35 = cc in absurd (omega arith)
+first-row : (t u : Bool) (c p : ℕ) → cond t (Refused Fault.Comma c) (cond u (Refused Fault.Settings 0) Accepted) ≡ Refused Fault.Comma p → (t ≡ true) × (c ≡ p)
+first-row true u c p e = (refl, ap place_of e)
+first-row false true c p e = let z : ◌≡◌ {A = ℕ} 35 34 = ap number_of e in absurd (omega arith)
 first-row false false c p e = let z : ◌≡◌ {A = ℕ} 0 1 = cc in absurd (omega arith)
 
-refused-comma : (bs : List ℕ) (p : ℕ) → settings_verdict bs ≡ Refused 34 p → FirstComma bs p
+refused-comma : (bs : List ℕ) (p : ℕ) → settings_verdict bs ≡ Refused Fault.Comma p → FirstComma bs p
 refused-comma bs p v =
     let at = first-row (ltb (comma_place bs) (length bs)) (settings_bad bs) (comma_place bs) p (sym (verdict-is bs) ∙ v) in
     subst (FirstComma bs) at.1 (comma-first bs (ltb-true (comma_place bs) (length bs) at.0))
 
 -- bytes without a comma that are no text are refused by the second row
-fault-refused : (bs : List ℕ) → ((p : ℕ) → FirstComma bs p → ⊥) → ((s : Settings) → Written s bs → ⊥) → settings_verdict bs ≡ Refused 35 0
+fault-refused : (bs : List ℕ) → ((p : ℕ) → FirstComma bs p → ⊥) → ((s : Settings) → Written s bs → ⊥) → settings_verdict bs ≡ Refused Fault.Settings 0
 fault-refused bs f w =
     by_bool (ltb (comma_place bs) (length bs))
     (λ c. absurd (f (comma_place bs) (comma-first bs (ltb-true (comma_place bs) (length bs) c))))
@@ -148,10 +148,10 @@ fault-refused bs f w =
     (λ b. absurd (w (settings_in bs) (read-written bs b))))
 
 -- verdicts that differ
-not-both : (v : Verdict) (p : ℕ) → v ≡ Refused 34 p → v ≡ Refused 35 0 → ⊥
-not-both v p e f = let z : ◌≡◌ {A = ℕ} 34 35 = cc in omega arith
+not-both : (v : Verdict) (p : ℕ) → v ≡ Refused Fault.Comma p → v ≡ Refused Fault.Settings 0 → ⊥
+not-both v p e f = let z : ◌≡◌ {A = ℕ} 34 35 = ap number_of (sym e ∙ f) in omega arith
 
-not-accepted : (v : Verdict) → v ≡ Accepted → v ≡ Refused 35 0 → ⊥
+not-accepted : (v : Verdict) → v ≡ Accepted → v ≡ Refused Fault.Settings 0 → ⊥
 not-accepted v e f = let z : ◌≡◌ {A = ℕ} 0 1 = cc in omega arith
 
 -- ---- the claims

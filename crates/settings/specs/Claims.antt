@@ -1,7 +1,7 @@
 -- What is claimed of settings: which bytes are settings and which are refused how, said by writing and not by reading (`proofs/Reading` proves it); that
 -- all settings whose pitches are right have a text (`proofs/Spellable`); and what the masks line and the edition come to (`proofs/Meaning`).
 use Rattle.std.specs.Prelude.{ℕ, ◌≤◌, ◌≡◌, ◌↔◌, List, true, false}
-use Rattle.format.specs.declared.Verdict.TheVariants.{Accepted, Refused}
+use Rattle.format.specs.Checks.{Accepted, Refused}
 use Rattle.question.specs.Question.{masks_on}
 use Rattle.question.specs.declared.Masks.TheVariants.{NotChosen, On, Off}
 use Rattle.settings.specs.Settings.{Written, FirstComma, masks_meant}
@@ -10,6 +10,7 @@ use Rattle.settings.specs.Answers.{settings_verdict}
 use Rattle.settings.specs.declared.Edition.{Edition}
 use Rattle.settings.specs.declared.Edition.TheVariants.{First, Second}
 use Rattle.settings.specs.declared.Settings.{Settings}
+use Rattle.format.specs.declared.Fault.TheVariants as Fault
 
 -- ---- which bytes are settings: a claim about any bytes
 
@@ -19,9 +20,9 @@ pub record SettingsClaims (bs : List ℕ) : Type 0 where
   -- one text says one settings
   pub one : (s r : Settings) → Written s bs → Written r bs → s ≡ r
   -- a comma anywhere is 34 at the first
-  pub comma : (p : ℕ) → FirstComma bs p ↔ (settings_verdict bs ≡ Refused 34 p)
+  pub comma : (p : ℕ) → FirstComma bs p ↔ (settings_verdict bs ≡ Refused Fault.Comma p)
   -- any other fault is 35 at 0
-  pub fault : (((p : ℕ) → FirstComma bs p → ⊥) × ((s : Settings) → Written s bs → ⊥)) ↔ (settings_verdict bs ≡ Refused 35 0)
+  pub fault : (((p : ℕ) → FirstComma bs p → ⊥) × ((s : Settings) → Written s bs → ⊥)) ↔ (settings_verdict bs ≡ Refused Fault.Settings 0)
 
 abbrev pub AllSettings : Type 0
 AllSettings = (bs : List ℕ) → SettingsClaims bs

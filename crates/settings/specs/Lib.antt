@@ -2,5 +2,4 @@
 pub mod Settings
 pub mod Reading
 pub mod Answers
-pub mod Steps
 pub mod Claims

@@ -1,20 +1,21 @@
 // The settings of a quote, read from a text of a few lines: refusals 34 and 35.
 #![tactic(auto)]
 
-ghost use Rattle.std.specs.Prelude.{◌≡◌, true, false, [], ◌∷◌, ◌+◌, ◌-◌, ◌*◌, ◌^◌, ◌≤◌, ◌<◌, length, drop};
-ghost use Rattle.format.specs.Markup.{every};
+ghost use Rattle.std.specs.Prelude.{◌≡◌, None, Some, true, false, cond, [], ◌∷◌, ◌+◌, ◌-◌, ◌*◌, ◌^◌, ◌≤◌, ◌<◌, length, drop, position, eqb};
+ghost use Rattle.std.specs.Char.{is_ascii_digit};
+ghost use Rattle.std.specs.List.{prefix_len};
+ghost use Rattle.std.specs.Option.{MatchOption};
+ghost use Rattle.format.specs.Markup.{every, front, behind, begins};
 ghost use Rattle.format.specs.Container.{same_bytes};
-ghost use Rattle.markup.specs.Stretches.{stretch, Passed};
 ghost use Rattle.settings.specs.Settings.{digit, digits_value, fraction_of, masks_meant};
 ghost use Rattle.settings.specs.Reading.{is_point, decimals_at, behind_decimals, decimals_bad, behind_pitch, pitch_at, spelling_bad, pitch_bad, edition_bad, edition_at, pitch_line_bad, behind_pitch_line, masks_bad, masks_at, settings_bad, settings_in};
 ghost use Rattle.settings.specs.Answers.{SettingsRead};
-ghost use Rattle.settings.specs.Steps.{rest, Behind, PitchLine};
 
-use markup::stretches::begins_with;
+use format::{Fault, Refusal};
 use question::Masks;
 
 // The edition of the settings: 1 or 2.
-#[derive(Clone, Copy)]
+#[derive(Clone, Copy, Debug, PartialEq, Eq)]
 pub enum Edition {
     First,
     Second,
@@ -29,322 +30,156 @@ pub struct Settings {
     pub masks: Masks,
 }
 
-// The settings that bytes are, or the refusal.
-#[derive(Clone, Copy)]
-pub enum SettingsAnswer {
-    Found(Settings),
-    Refused { number: u64, place: u64 },
-}
+// ---- a pitch
 
-// ---- digits
-
-fn is_digit(b: u64) -> bool
-    ensures { result ≡ digit b }
+// How many digits bytes begin with.
+fn digit_count(s: &[u8]) -> usize
+    ensures { result ≡ prefix_len is_ascii_digit s.now }
 {
-    if b < 48 {
-        return false;
-    }
-    b <= 57
+    s.iter().take_while(|b| b.is_ascii_digit()).count()
 }
 
-// Where the digits from at on end.
-fn digits_end(s: &[u8], at: u64, end: u64) -> u64
-    requires { (at ≤ end) × (end ≤ length s.now) }
-    ensures { Passed digit s.now at end result }
+// The digits that bytes begin with, and what stands behind them.
+fn digits(s: &[u8]) -> (&[u8], &[u8])
+    ensures { (result.0.now ≡ front digit s.now) × (result.1.now ≡ behind digit s.now) }
 {
-    let mut i = at;
-    while i < end {
-        if !is_digit(fields::byte_at(s, i)) {
-            return i;
-        }
-        i += 1;
-    }
-    i
+    s.split_at(digit_count(s))
 }
 
-// The number that the digits from at up to stop spell; there are at most five.
-fn number_of(s: &[u8], at: u64, stop: u64) -> u64
-    requires at_le_stop { (at ≤ stop) × (stop ≤ length s.now) × (stop ≤ at + 5) }
-    requires stop_value { every digit (stretch s.now at stop) ≡ true }
-    ensures { (result ≡ digits_value (stretch s.now at stop)) × (result < 100000) }
+// The number that at most five digits spell.
+fn number_of(digits: &[u8]) -> u64
+    requires { (every digit digits.now ≡ true) × (length digits.now ≤ 5) }
+    ensures { (result ≡ digits_value digits.now) × (result < 100000) }
 {
     let mut n: u64 = 0;
-    let mut i = at;
-    while i < stop {
-        n = 10 * n + (fields::byte_at(s, i) - 48);
-        i += 1;
+    for d in digits.iter() {
+        n = 10 * n + u64::from(*d - b'0');
     }
     n
 }
 
-// ---- a pitch, from behind its line's name on
-
-// Whether a point stands at a place.
-fn is_point(s: &[u8], at: u64) -> bool
-    requires { at ≤ length s.now }
-    ensures { result ≡ is_point (rest s.now at) }
+// The nanometres of a point and one to three decimals that bytes begin with, and what stands behind: none and all of it, where there is no point.
+fn decimals(s: &[u8]) -> Option<(u64, &[u8])>
+    ensures { MatchOption result (decimals_bad s.now ≡ true) (λ p. (decimals_bad s.now ≡ false) × (p.0 ≡ fraction_of (decimals_at s.now)) × (p.0 < 10000000) × (p.1.now ≡ behind_decimals s.now)) }
 {
-    begins_with(s, at, s.len() as u64, b".")
+    let Some(decimals) = s.strip_prefix(b".") else {
+        return Some((0, s));
+    };
+    let (decimals, behind) = digits(decimals);
+    if decimals.is_empty() || 3 < decimals.len() {
+        return None;
+    }
+    let unit = match decimals.len() {
+        1 => 100,
+        2 => 10,
+        _ => 1,
+    };
+    Some((number_of(decimals) * unit, behind))
 }
 
-// Whether there is a point at a place without one to three digits behind it.
-fn decimals_bad(s: &[u8], at: u64) -> bool
-    requires { at ≤ length s.now }
-    ensures { result ≡ decimals_bad (rest s.now at) }
+// The pitch of 1 to 65,535 nanometres that bytes begin with, and what stands behind it.
+fn pitch(s: &[u8]) -> Option<(u64, &[u8])>
+    ensures { MatchOption result (pitch_bad s.now ≡ true) (λ p. (pitch_bad s.now ≡ false) × (p.0 ≡ pitch_at s.now) × (p.1.now ≡ behind_pitch s.now)) }
 {
-    if !is_point(s, at) {
-        return false;
+    let (whole, behind) = digits(s);
+    if whole.is_empty() || 5 < whole.len() {
+        return None;
     }
-    let from = at + 1;
-    let stop = digits_end(s, from, s.len() as u64);
-    if stop == from {
-        return true;
+    let (fraction, behind) = decimals(behind)?;
+    let pitch = 1000 * number_of(whole) + fraction;
+    if pitch == 0 || 65535 < pitch {
+        return None;
     }
-    3 < stop - from
-}
-
-// Where the decimals end whose point stands at a place: there, where none does.
-fn decimals_end(s: &[u8], at: u64) -> u64
-    requires { at ≤ length s.now }
-    ensures { Behind s.now at (behind_decimals (rest s.now at)) result }
-{
-    if !is_point(s, at) {
-        return at;
-    }
-    digits_end(s, at + 1, s.len() as u64)
-}
-
-// What the last of n decimals counts, in nanometres.
-fn unit_of(n: u64) -> u64
-    requires { (1 ≤ n) × (n ≤ 3) }
-    ensures { (result ≡ 10 ^ (3 - n)) × (result ≤ 100) }
-{
-    if n == 1 {
-        return 100;
-    }
-    if n == 2 {
-        return 10;
-    }
-    1
-}
-
-// The nanometres of the decimals whose point stands at a place: none, where none does.
-fn decimals_of(s: &[u8], at: u64) -> u64
-    requires { (at ≤ length s.now) × (decimals_bad (rest s.now at) ≡ false) }
-    ensures { (result ≡ fraction_of (decimals_at (rest s.now at))) × (result < 10000000) }
-{
-    if !is_point(s, at) {
-        return 0;
-    }
-    let from = at + 1;
-    let stop = digits_end(s, from, s.len() as u64);
-    let unit = unit_of(stop - from);
-    number_of(s, from, stop) * unit
-}
-
-// Whether what stands at a place is not one to five digits with right decimals.
-fn spelling_bad(s: &[u8], at: u64) -> bool
-    requires { at ≤ length s.now }
-    ensures { result ≡ spelling_bad (rest s.now at) }
-{
-    let stop = digits_end(s, at, s.len() as u64);
-    if stop == at {
-        return true;
-    }
-    if 5 < stop - at {
-        return true;
-    }
-    decimals_bad(s, stop)
-}
-
-// The pitch at a place in nanometres.
-fn pitch_of(s: &[u8], at: u64) -> u64
-    requires { (at ≤ length s.now) × (spelling_bad (rest s.now at) ≡ false) }
-    ensures { result ≡ pitch_at (rest s.now at) }
-{
-    let stop = digits_end(s, at, s.len() as u64);
-    1000 * number_of(s, at, stop) + decimals_of(s, stop)
-}
-
-// Whether what stands at a place is not a pitch of 1 to 65,535 nanometres.
-fn pitch_bad(s: &[u8], at: u64) -> bool
-    requires { at ≤ length s.now }
-    ensures { result ≡ pitch_bad (rest s.now at) }
-{
-    if spelling_bad(s, at) {
-        return true;
-    }
-    let pitch = pitch_of(s, at);
-    if pitch == 0 {
-        return true;
-    }
-    65535 < pitch
-}
-
-// Where the pitch at a place ends.
-fn pitch_end(s: &[u8], at: u64) -> u64
-    requires { at ≤ length s.now }
-    ensures { Behind s.now at (behind_pitch (rest s.now at)) result }
-{
-    let stop = digits_end(s, at, s.len() as u64);
-    decimals_end(s, stop)
+    Some((pitch, behind))
 }
 
 // ---- the lines
 
-// Whether what stands at a place is not the line of a pitch by that name, which has 8 bytes.
-fn pitch_line_bad(s: &[u8], at: u64, name: &[u8]) -> bool
-    requires { (at ≤ length s.now) × (length name.now ≡ 8) }
-    ensures { result ≡ pitch_line_bad name.now (rest s.now at) }
+// The edition of the first line, and what stands behind it.
+fn edition_line(s: &[u8]) -> Option<(Edition, &[u8])>
+    ensures { MatchOption result (edition_bad s.now ≡ true) (λ p. (edition_bad s.now ≡ false) × (p.0 ≡ edition_at s.now) × (p.1.now ≡ drop 10 s.now)) }
 {
-    if !begins_with(s, at, s.len() as u64, name) {
-        return true;
+    if let Some(behind) = s.strip_prefix(b"edition=1\n") {
+        return Some((Edition::First, behind));
     }
-    if pitch_bad(s, at + 8) {
-        return true;
-    }
-    let stop = pitch_end(s, at + 8);
-    !begins_with(s, stop, s.len() as u64, b"\n")
+    let behind = s.strip_prefix(b"edition=2\n")?;
+    Some((Edition::Second, behind))
 }
 
-// Where the line behind a pitch's line begins.
-fn behind_pitch_line(s: &[u8], at: u64) -> u64
-    requires { PitchLine s.now at }
-    ensures { Behind s.now at (behind_pitch_line (rest s.now at)) result }
+// The pitch of a line that begins with a name, and what stands behind the line.
+fn pitch_line<'a>(s: &'a [u8], name: &[u8]) -> Option<(u64, &'a [u8])>
+    requires { length name.now ≡ 8 }
+    ensures { MatchOption result (pitch_line_bad name.now s.now ≡ true) (λ p. (pitch_line_bad name.now s.now ≡ false) × (p.0 ≡ pitch_at (drop 8 s.now)) × (p.1.now ≡ behind_pitch_line s.now)) }
 {
-    pitch_end(s, at + 8) + 1
+    let (pitch, behind) = pitch(s.strip_prefix(name)?)?;
+    let behind = behind.strip_prefix(b"\n")?;
+    Some((pitch, behind))
 }
 
-// Whether the bytes from a place on are those of m, and no more.
-fn is_rest(s: &[u8], at: u64, m: &[u8]) -> bool
-    requires { at ≤ length s.now }
-    ensures { result ≡ same_bytes (rest s.now at) m.now }
+// The choice of the masks line that bytes are; none is made, where the line lacks.
+fn masks_line(s: &[u8]) -> Option<Masks>
+    ensures { MatchOption result (masks_bad s.now ≡ true) (λ m. (masks_bad s.now ≡ false) × (m ≡ masks_at s.now)) }
 {
-    if s.len() as u64 - at != m.len() as u64 {
-        return false;
+    if s.is_empty() {
+        return Some(Masks::NotChosen);
     }
-    fields::same_at(s, at, m)
-}
-
-// Whether something stands at a place that is not a masks line, or more than that.
-fn masks_bad(s: &[u8], at: u64) -> bool
-    requires { at ≤ length s.now }
-    ensures { result ≡ masks_bad (rest s.now at) }
-{
-    if is_rest(s, at, b"") {
-        return false;
+    if s == b"masks=on\n".as_slice() {
+        return Some(Masks::On);
     }
-    if is_rest(s, at, b"masks=on\n") {
-        return false;
+    if s == b"masks=off\n".as_slice() {
+        return Some(Masks::Off);
     }
-    !is_rest(s, at, b"masks=off\n")
-}
-
-// The choice of the masks line at a place; none, where the settings end there.
-fn masks_of(s: &[u8], at: u64) -> Masks
-    requires { at ≤ length s.now }
-    ensures { result ≡ masks_at (rest s.now at) }
-{
-    if is_rest(s, at, b"") {
-        return Masks::NotChosen;
-    }
-    if is_rest(s, at, b"masks=on\n") {
-        return Masks::On;
-    }
-    Masks::Off
-}
-
-// Whether the first line is none of an edition.
-fn edition_bad(s: &[u8]) -> bool
-    ensures { result ≡ edition_bad s.now }
-{
-    if begins_with(s, 0, s.len() as u64, b"edition=1\n") {
-        return false;
-    }
-    !begins_with(s, 0, s.len() as u64, b"edition=2\n")
-}
-
-// The edition of the first line.
-fn edition_of(s: &[u8]) -> Edition
-    ensures { result ≡ edition_at s.now }
-{
-    if begins_with(s, 0, s.len() as u64, b"edition=1\n") {
-        return Edition::First;
-    }
-    Edition::Second
+    None
 }
 
 // ---- the settings
 
-// Whether bytes are no settings.
-fn settings_bad(s: &[u8]) -> bool
-    ensures { result ≡ settings_bad s.now }
-{
-    if edition_bad(s) {
-        return true;
-    }
-    if pitch_line_bad(s, 10, b"pitch_x=") {
-        return true;
-    }
-    let third = behind_pitch_line(s, 10);
-    if pitch_line_bad(s, third, b"pitch_y=") {
-        return true;
-    }
-    let last = behind_pitch_line(s, third);
-    masks_bad(s, last)
-}
-
 // The settings that bytes are.
-fn settings_of(s: &[u8]) -> Settings
-    requires { settings_bad s.now ≡ false }
-    ensures { result ≡ settings_in s.now }
+fn settings_of(s: &[u8]) -> Option<Settings>
+    ensures { result ≡ cond (settings_bad s.now) None (Some (settings_in s.now)) }
 {
-    let third = behind_pitch_line(s, 10);
-    let last = behind_pitch_line(s, third);
-    let pitch_x = pitch_of(s, 18);
-    let pitch_y = pitch_of(s, third + 8);
-    let masks = masks_of(s, last);
-    Settings {
-        edition: edition_of(s),
+    let (edition, behind) = edition_line(s)?;
+    let (pitch_x, behind) = pitch_line(behind, b"pitch_x=")?;
+    let (pitch_y, behind) = pitch_line(behind, b"pitch_y=")?;
+    let masks = masks_line(behind)?;
+    Some(Settings {
+        edition,
         pitch_x,
         pitch_y,
         masks,
-    }
+    })
+}
+
+// Where the first comma stands.
+fn first_comma(s: &[u8]) -> Option<usize>
+    ensures { result ≡ position (λ b. eqb b 44) s.now }
+{
+    s.iter().position(|b| *b == b',')
 }
 
 // Reads settings: any bytes. A comma is refused first, wherever it stands.
-pub fn read(s: &[u8]) -> SettingsAnswer
+pub fn read(s: &[u8]) -> Result<Settings, Refusal>
     ensures { SettingsRead s.now result }
 {
-    let n = s.len() as u64;
-    let comma = markup::stretches::next_byte(s, 0, n, 44);
-    if comma < n {
-        return SettingsAnswer::Refused {
-            number: 34,
-            place: comma,
-        };
+    if let Some(comma) = first_comma(s) {
+        return Err(Refusal {
+            fault: Fault::Comma,
+            place: comma as u64,
+        });
     }
-    if settings_bad(s) {
-        return SettingsAnswer::Refused {
-            number: 35,
-            place: 0,
-        };
-    }
-    SettingsAnswer::Found(settings_of(s))
+    settings_of(s).ok_or(Refusal {
+        fault: Fault::Settings,
+        place: 0,
+    })
 }
 
 // The masks choice that settings come to: a line that lacks means off in edition 1 and on in edition 2.
 pub fn masks_meant(s: Settings) -> Masks
     ensures { result ≡ masks_meant s.edition s.masks }
 {
-    let masks = s.masks;
-    let edition = s.edition;
-    match masks {
-        Masks::On => Masks::On,
-        Masks::Off => Masks::Off,
-        Masks::NotChosen => match edition {
-            Edition::First => Masks::Off,
-            Edition::Second => Masks::On,
-        },
+    match (s.masks, s.edition) {
+        (Masks::NotChosen, Edition::First) => Masks::Off,
+        (Masks::NotChosen, Edition::Second) => Masks::On,
+        (chosen, _) => chosen,
     }
 }

@@ -10,10 +10,10 @@ use Rattle.format.specs.Directory.{attachment_rows}
 use Rattle.format.specs.Records.{mask_of}
 use Rattle.format.specs.declared.Release.{Release}
 use Rattle.format.specs.declared.Release.TheVariants.{R102, R12}
-use Rattle.format.specs.declared.Verdict.{Verdict}
-use Rattle.format.specs.declared.Verdict.TheVariants.{Accepted}
+use Rattle.format.specs.Checks.{Verdict}
+use Rattle.format.specs.Checks.{Accepted}
 use Rattle.format.specs.declared.TileMask.{TileMask}
-use Rattle.format.specs.declared.TileMask.TheVariants.{Unmasked}
+use Rattle.std.specs.Prelude.{Option, None}
 use native.Mathlib.Nat.{add-sub_cancel_left, mul_comm, mul_assoc, mul-pos, mul-le-mul, mul-le-mul_right}
 use native.Mathlib.Omega.{arith}
 use lib.ListN.{length}
@@ -211,11 +211,11 @@ module _ (ds : List ℕ) (e : ℕ) (bs : List ℕ) (q a n : ℕ) (j : n ≡ atta
       go true = refl
       go false = refl
 
-  pub empty-unmasked : (rel : Release) → n ≡ 0 → Unmasked ≡ mask_of ds e bs q rel
+  pub empty-unmasked : (rel : Release) → n ≡ 0 → ◌≡◌ {A = Option TileMask} None (mask_of ds e bs q rel)
   unfolding mask_of mask_from
   empty-unmasked rel z = rw (← j, z) (go (has_chunks ds e bs q rel))
     where
-      go : (b : Bool) → Unmasked ≡ cond b Unmasked Unmasked
+      go : (b : Bool) → ◌≡◌ {A = Option TileMask} None (cond b None None)
       go true = refl
       go false = refl
 
@@ -228,7 +228,7 @@ module _ (ds : List ℕ) (e : ℕ) (bs : List ℕ) (q a n : ℕ) (j : n ≡ atta
       unfolding attachment_rows
       chunks-judged v l = rw (is-true-not r _ k h, ← i, ← j) (rw add-sub_cancel_left at l)
 
-      pub chunks-masked : (m : TileMask) → m ≡ mask_from (a + n - a) bs (a + n) a → m ≡ mask_of ds e bs q rel
+      pub chunks-masked : (m : Option TileMask) → m ≡ mask_from (a + n - a) bs (a + n) a → m ≡ mask_of ds e bs q rel
       unfolding mask_of
       chunks-masked m l = rw (is-true-not r _ k h, ← i, ← j) (rw add-sub_cancel_left at l)
 
@@ -241,6 +241,6 @@ module _ (ds : List ℕ) (e : ℕ) (bs : List ℕ) (q : ℕ) (rel : Release) (r 
   unfolding attachment_rows
   plain-accepted = rw (is-false-not r _ k h)
 
-  pub plain-unmasked : Unmasked ≡ mask_of ds e bs q rel
+  pub plain-unmasked : ◌≡◌ {A = Option TileMask} None (mask_of ds e bs q rel)
   unfolding mask_of
   plain-unmasked = rw (is-false-not r _ k h)

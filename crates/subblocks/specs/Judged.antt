@@ -7,7 +7,7 @@ use Rattle.format.specs.Entry.{pixel_type, pixel_bytes, dimension_count, next_en
 use Rattle.format.specs.SubBlock.{sub_block_bad, contents_bad}
 use Rattle.format.specs.Directory.{attachment_rows}
 use Rattle.format.specs.declared.Release.{Release}
-use Rattle.format.specs.declared.Verdict.TheVariants.{Accepted}
+use Rattle.format.specs.Checks.{Accepted}
 
 -- the entry lies in its file, is well formed and of a listed pixel type
 pub record Listed (ds : List ℕ) (e : ℕ) : Type 0 where

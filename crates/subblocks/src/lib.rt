@@ -222,26 +222,26 @@ pub fn judge_attachment(d: &[u8], e: u64, s: &[u8], q: u64, release: Release) ->
 {
     let n = attachment_size(s, q);
     if n == 0 {
-        return Verdict::Accepted;
+        return Ok(());
     }
     if !has_chunks(d, e, s, q, release) {
-        return Verdict::Accepted;
+        return Ok(());
     }
     let a = attachment_place(d, e, s, q);
     masks::judge_chunks(s, a, a + n)
 }
 
 // The tile's mask.
-pub fn mask_of(d: &[u8], e: u64, s: &[u8], q: u64, release: Release) -> TileMask
+pub fn mask_of(d: &[u8], e: u64, s: &[u8], q: u64, release: Release) -> Option<TileMask>
     requires { Judged d.now e s.now q release }
     ensures { result ≡ mask_of d.now e s.now q release }
 {
     let n = attachment_size(s, q);
     if n == 0 {
-        return TileMask::Unmasked;
+        return None;
     }
     if !has_chunks(d, e, s, q, release) {
-        return TileMask::Unmasked;
+        return None;
     }
     let a = attachment_place(d, e, s, q);
     masks::mask_in(s, a, a + n)

@@ -14,7 +14,7 @@ use Rattle.format.specs.Directory.{tile_count, entry_place}
 use Rattle.format.specs.Rules.{verdict, AcceptedFile}
 use Rattle.format.specs.Records.{tile_at, tile_record, dimension_at, dimension_record}
 use Rattle.format.specs.declared.Release.{Release}
-use Rattle.format.specs.declared.Verdict.TheVariants.{Accepted}
+use Rattle.format.specs.Checks.{Accepted}
 use Rattle.format.specs.declared.Tile.{Tile}
 use Rattle.format.specs.declared.Dimension.{Dimension}
 use Rattle.entries.proofs.EntryLaws.{dimension-within}
@@ -34,25 +34,11 @@ product-fits w n h l = let m : w * n ≤ 24 * 65536 = mul-le-mul h l in omega ar
 
 -- ---- one tile
 
--- its numbers, and its signed ones, as a row that is put
-pub numbers-put : (r : Tile) (k : ℕ) (row : List ℕ) {before after : List ℕ} → row ≡ tile_numbers r
-    → Stretch 0 (24 * k) (length row) row before after → Stretch 0 (24 * k) 24 (tile_numbers r) before after
-unfolding tile_numbers
-numbers-put r k row f m = rw f at m
-
-pub starts-put : (r : Tile) (k : ℕ) (row : List ℤ) {before after : List ℤ} → row ≡ tile_starts r
-    → Stretch (pos 0) (4 * k) (length row) row before after → Stretch (pos 0) (4 * k) 4 (tile_starts r) before after
-unfolding tile_starts
-starts-put r k row f m = rw f at m
-
 -- what may be read of the entry of tile k, at e
 module _ (bs : List ℕ) (k e : ℕ) (t : TileAt bs k e) where
   module _ (a : AcceptedFile bs) where
     pub tile-entry : next_entry bs e ≤ length bs
     tile-entry = rw t.place ((tiled-file bs a).listed k t.below).entry
-
-    pub tile-few : k < 4096
-    tile-few = omega (arith, t.below, (tiled-file bs a).few)
 
     -- of its dimension j
     module _ (j : ℕ) (l : j < dimension_count bs e) where
@@ -70,25 +56,26 @@ module _ (bs : List ℕ) (k e : ℕ) (t : TileAt bs k e) where
     pub tile-judged : (q : ℕ) → verdict (scan_of bs rel) ≡ Accepted → q ≡ file_position bs e → Judged bs e bs q rel
     tile-judged q a f = rw (f, t.place) ((tiled (scan_of bs rel) a).tile k t.below)
 
-    pub tile-is : (q : ℕ) (r : Tile) → q ≡ file_position bs e → r ≡ tile_at k bs e bs q rel → r ≡ tile_record (scan_of bs rel) k
-    unfolding tile_record
-    tile-is q r f g = g ∙ rw (f, t.place)
-
-    pub tile-put : (r : Tile) {numbers₀ numbers : List ℕ} {starts₀ starts : List ℤ} → r ≡ tile_record (scan_of bs rel) k
-        → Stretch 0 (24 * k) 24 (tile_numbers r) numbers₀ numbers → Stretch (pos 0) (4 * k) 4 (tile_starts r) starts₀ starts
-        → TilePut (scan_of bs rel) k numbers₀ starts₀ numbers starts
-    tile-put r f m n = record { numbers-are = rw f at m; starts-are = rw f at n }
+    -- its numbers, and its signed ones, as the rows that are put
+    pub tile-put : (q : ℕ) (r : Tile) (row : List ℕ) (from : List ℤ) {numbers₀ numbers : List ℕ} {starts₀ starts : List ℤ}
+        → q ≡ file_position bs e → r ≡ tile_at k bs e bs q rel → row ≡ tile_numbers r → from ≡ tile_starts r
+        → ((none : ℕ) → Stretch none (24 * k) (length row) row numbers₀ numbers)
+        → ((none : ℤ) → Stretch none (4 * k) (length from) from starts₀ starts) → TilePut (scan_of bs rel) k numbers₀ starts₀ numbers starts
+    unfolding tile_record tile_numbers tile_starts
+    tile-put q r row from f g h i m n =
+        let is : r ≡ tile_record (scan_of bs rel) k = g ∙ rw (f, t.place) in
+        record { numbers-are = rw (h, is) at (m 0); starts-are = rw (i, is) at (n (pos 0)) }
 
   -- the record d of its dimension j as the rows that were put
   module _ (j : ℕ) where
     pub dimension-put : (p r : ℕ) (d : Dimension) (row : List ℕ) (from : List ℤ) {numbers₀ numbers : List ℕ} {starts₀ starts : List ℤ}
         → p ≡ dimension_place e j → d ≡ dimension_at bs p → row ≡ dimension_numbers k d → from ≡ dimension_starts d
-        → Stretch 0 (5 * r) (length row) row numbers₀ numbers → Stretch (pos 0) r (length from) from starts₀ starts
+        → ((none : ℕ) → Stretch none (5 * r) (length row) row numbers₀ numbers) → ((none : ℤ) → Stretch none r (length from) from starts₀ starts)
         → DimensionPut bs k j r numbers₀ starts₀ numbers starts
     unfolding dimension_numbers dimension_starts
     dimension-put p r d row from f g h i m n =
         let is : d ≡ dimension_of bs k j = g ∙ rw (f, t.place) in
-        record { numbers-are = rw (h, is) at m; starts-are = rw (one-mul r) (rw (i, is) at n) }
+        record { numbers-are = rw (h, is) at (m 0); starts-are = rw (one-mul r) (rw (i, is) at (n (pos 0))) }
 
 -- ---- the loop over the tiles: the records of those below k are put, and the next entry is at e
 

@@ -1,25 +1,21 @@
 -- Records as numbers, in the order of include/czi.h.
-use Rattle.std.specs.Prelude.{ℕ, List, [], ◌∷◌, ℤ, pos}
+use Rattle.std.specs.Prelude.{ℕ, List, [], ◌∷◌, ℤ, pos, is_some, unwrap_or}
+use Rattle.std.specs.Int.{from_bool}
 use Rattle.format.specs.declared.TileMask.{TileMask}
-use Rattle.format.specs.declared.TileMask.TheVariants.{Unmasked, Masked}
-use Rattle.format.specs.declared.MIndex.{MIndex}
-use Rattle.format.specs.declared.MIndex.TheVariants.{NoM, M}
+use Rattle.format.specs.declared.Layers.{Layers}
 use Rattle.format.specs.declared.Tile.{Tile}
 use Rattle.format.specs.declared.Dimension.{Dimension}
-use Rattle.tables.specs.declared.numbers.MIndexNumbers.{MIndexNumbers}
-use Rattle.tables.specs.declared.numbers.MaskNumbers.{MaskNumbers}
 
 -- ---- the tile record
 
-abbrev pub m_index_numbers : MIndex → MIndexNumbers
-m_index_numbers (M z) = record { some = 1; start = z }
-m_index_numbers NoM = record { some = 0; start = pos 0 }
+-- what stands for a mask and for layers where there are none
+abbrev pub no_mask : TileMask
+no_mask = record { place = 0; shape = record { width = 0; height = 0; stride = 0 } }
 
-abbrev pub mask_numbers : TileMask → MaskNumbers
-mask_numbers (Masked p s) = record { some = 1; place = p; width = s.width; height = s.height; stride = s.stride }
-mask_numbers Unmasked = record { some = 0; place = 0; width = 0; height = 0; stride = 0 }
+abbrev pub no_layers : Layers
+no_layers = record { letter = 0; start = pos 0; size = 0 }
 
--- the record's numbers, in this order
+-- the record's numbers, in this order: whether there are an M and a mask as 1 or 0
 unfoldable pub tile_numbers : Tile → List ℕ
 tile_numbers t =
     t.entry ∷
@@ -32,25 +28,25 @@ tile_numbers t =
     t.x.stored ∷
     t.y.size ∷
     t.y.stored ∷
-    (m_index_numbers t.m).some ∷
+    from_bool (is_some t.m) ∷
     t.metadata.start ∷
     t.metadata.length ∷
     t.pixels.start ∷
     t.pixels.length ∷
     t.attachment.start ∷
     t.attachment.length ∷
-    (mask_numbers t.mask).some ∷
-    (mask_numbers t.mask).place ∷
-    (mask_numbers t.mask).width ∷
-    (mask_numbers t.mask).height ∷
-    (mask_numbers t.mask).stride ∷
-    t.layers.letter ∷
-    t.layers.size ∷
+    from_bool (is_some t.mask) ∷
+    (unwrap_or t.mask no_mask).place ∷
+    (unwrap_or t.mask no_mask).shape.width ∷
+    (unwrap_or t.mask no_mask).shape.height ∷
+    (unwrap_or t.mask no_mask).shape.stride ∷
+    (unwrap_or t.layers no_layers).letter ∷
+    (unwrap_or t.layers no_layers).size ∷
     []
 
 -- its signed numbers: the Starts of X, Y, M and of the layers
 unfoldable pub tile_starts : Tile → List ℤ
-tile_starts t = t.x.start ∷ t.y.start ∷ (m_index_numbers t.m).start ∷ t.layers.start ∷ []
+tile_starts t = t.x.start ∷ t.y.start ∷ unwrap_or t.m (pos 0) ∷ (unwrap_or t.layers no_layers).start ∷ []
 
 -- ---- the dimension record, of a dimension of entry n
 

@@ -1,19 +1,18 @@
 -- Every record of a file in two lent arrays: of its tiles, and of its tiles' dimensions.
-use Rattle.std.specs.Prelude.{ℕ, zero, suc, ◌+◌, ◌*◌, ◌≤◌, ◌<◌, ◌≡◌, List, [], ◌∷◌, ◌++◌, Bool, length, get_or, ℤ, pos, ltb}
+use Rattle.std.specs.Prelude.{ℕ, zero, suc, ◌+◌, ◌*◌, ◌≤◌, ◌<◌, ◌≡◌, List, [], ◌∷◌, ◌++◌, Bool, Result, Err, length, get_or, ℤ, pos, ltb}
 use Rattle.format.specs.Scan.{Scan}
 use Rattle.format.specs.Bytes.{any_of}
-use Rattle.format.specs.Checks.{row, first, if_accepted}
+use Rattle.format.specs.Checks.{Verdict, Accepted, row, first}
 use Rattle.format.specs.Entry.{dimension_count}
 use Rattle.format.specs.Directory.{tile_count, entry_place}
 use Rattle.format.specs.Rules.{checks}
 use Rattle.format.specs.Records.{tile_record, dimension_record}
-use Rattle.format.specs.Answers.{VerdictAnswered}
-use Rattle.format.specs.declared.Verdict.{Verdict}
-use Rattle.format.specs.declared.Verdict.TheVariants.{Accepted, Refused}
+use Rattle.format.specs.Answers.{ValueAnswered}
+use Rattle.format.specs.declared.Fault.TheVariants as Fault
+use Rattle.format.specs.declared.Refusal.{Refusal}
 use Rattle.format.specs.declared.Dimension.{Dimension}
 use Rattle.tables.specs.Numbers.{tile_numbers, tile_starts, dimension_numbers, dimension_starts}
 use Rattle.tables.specs.Rows.{Rows}
-use Rattle.tables.specs.declared.tiles.Table.{Table}
 
 -- ---- the verdict: the file's, then 22 where an array is too short
 
@@ -22,17 +21,16 @@ unfoldable pub short : ℕ → ℕ → ℕ → ℕ → ℕ → Bool
 short n w v numbers starts = any_of (ltb numbers (w * n) ∷ ltb starts (v * n) ∷ [])
 
 abbrev pub table_verdict : Scan → Bool → Verdict
-table_verdict sc tooShort = first (checks sc ++ (row 22 0 tooShort ∷ []))
+table_verdict sc tooShort = first (checks sc ++ (row Fault.LentTooShort 0 tooShort ∷ []))
 
 -- the arrays, which held numbers₀ and starts₀, by the verdict v: as they were where it refuses; `full` says what they hold where it accepts
 pub record Arrays (v : Verdict) (full : Type 0) (numbers₀ : List ℕ) (starts₀ : List ℤ) (numbers : List ℕ) (starts : List ℤ) : Type 0 where
-  pub refused : (n p : ℕ) → v ≡ Refused n p → (numbers ≡ numbers₀) × (starts ≡ starts₀)
+  pub refused : (e : Refusal) → v ≡ Err e → (numbers ≡ numbers₀) × (starts ≡ starts₀)
   pub accepted : v ≡ Accepted → full
 
 -- the answer r: v, and how many rows were filled, 0 where v refuses
-pub record TableAnswered (v : Verdict) (rows : ℕ) (r : Table) : Type 0 where
-  pub verdict-is : VerdictAnswered v r.verdict
-  pub rows_are : r.rows ≡ if_accepted v rows 0
+abbrev pub TableAnswered : Verdict → ℕ → Result ℕ Refusal → Type 0
+TableAnswered v rows r = ValueAnswered 0 v rows r
 
 -- ---- tiles: 24 numbers and 4 signed ones a tile, in directory order
 

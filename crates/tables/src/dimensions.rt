@@ -8,9 +8,9 @@ ghost use Rattle.tables.specs.Tables.{dimensions_below, dimension_total, dimensi
 ghost use Rattle.tables.specs.Steps.{TileAt, RowRoom, dimension_of, DimensionPut, DimensionsPut};
 
 use crate::numbers::{dimension_numbers, dimension_starts};
-use crate::rows::{put_numbers, put_starts};
-use crate::tiles::{Table, too_short};
-use format::{Release, Verdict};
+use crate::rows::put_row;
+use crate::tiles::too_short;
+use format::{Fault, Refusal, Release};
 
 // How many dimensions the n tiles of an accepted file have.
 fn dimension_total(s: &[u8], n: u64) -> u64
@@ -19,11 +19,9 @@ fn dimension_total(s: &[u8], n: u64) -> u64
 {
     let mut e = directory::first_entry(s);
     let mut total: u64 = 0;
-    let mut k: u64 = 0;
-    while k < n {
+    for _ in 0..n {
         total += entries::dimension_count(s, e);
         e = entries::next_entry(s, e);
-        k += 1;
     }
     total
 }
@@ -35,10 +33,8 @@ fn put_dimension(s: &[u8], k: u64, e: u64, j: u64, r: u64, numbers: &mut [u64], 
     ensures { DimensionPut s.now k j r numbers.old starts.old numbers.new starts.new }
 {
     let d = entries::dimension_at(s, entries::dimension_place(e, j));
-    let row = dimension_numbers(k, d);
-    put_numbers(numbers, (5 * r) as usize, &row);
-    let from = dimension_starts(d);
-    put_starts(starts, r as usize, &from);
+    put_row(numbers, (5 * r) as usize, &dimension_numbers(k, d));
+    put_row(starts, r as usize, &dimension_starts(d));
 }
 
 // Puts the records of the c dimensions of tile k, whose entry stands at e, into the rows from r on.
@@ -55,10 +51,8 @@ fn put_dimensions_of(
     requires row_room { RowRoom 5 1 (r + c) numbers.old starts.old }
     ensures { DimensionsPut s.now k c r numbers.old starts.old numbers.new starts.new }
 {
-    let mut j: u64 = 0;
-    while j < c {
+    for j in 0..c {
         put_dimension(s, k, e, j, r + j, numbers, starts);
-        j += 1;
     }
 }
 
@@ -70,46 +64,34 @@ fn put_dimensions(s: &[u8], n: u64, numbers: &mut [u64], starts: &mut [i32])
 {
     let mut e = directory::first_entry(s);
     let mut r: u64 = 0;
-    let mut k: u64 = 0;
-    while k < n {
+    for k in 0..n {
         let c = entries::dimension_count(s, e);
-        let next = r + c;
         put_dimensions_of(s, k, e, c, r, numbers, starts);
-        r = next;
+        r += c;
         e = entries::next_entry(s, e);
-        k += 1;
     }
 }
 
-// Every dimension record under a release: 5 numbers and a signed one a dimension, tile by tile in directory order. Refused, 22 where an array is
-// too short, it changes neither.
-pub fn dimensions(s: &[u8], release: Release, numbers: &mut [u64], starts: &mut [i32]) -> Table
+// Every dimension record under a release: 5 numbers and a signed one a dimension, tile by tile in directory order; answers how many there are.
+// Refused, 22 where an array is too short, it changes neither.
+pub fn dimensions(
+    s: &[u8],
+    release: Release,
+    numbers: &mut [u64],
+    starts: &mut [i32],
+) -> Result<u64, Refusal>
     ensures table_answered { TableAnswered (dimensions_verdict (scan_of s.now release) (length numbers.old) (length starts.old)) (dimension_total (scan_of s.now release)) result }
     ensures dimension_arrays { DimensionArrays (scan_of s.now release) numbers.old starts.old numbers.new starts.new }
 {
-    let v = judge::judge(s, release);
-    match v {
-        Verdict::Refused { number, place } => Table {
-            verdict: Verdict::Refused { number, place },
-            rows: 0,
-        },
-        Verdict::Accepted => {
-            let n = judge::tile_count(s);
-            let total = dimension_total(s, n);
-            if too_short(total, 5, 1, numbers.len(), starts.len()) {
-                return Table {
-                    verdict: Verdict::Refused {
-                        number: 22,
-                        place: 0,
-                    },
-                    rows: 0,
-                };
-            }
-            put_dimensions(s, n, numbers, starts);
-            Table {
-                verdict: Verdict::Accepted,
-                rows: total,
-            }
-        }
+    judge::judge(s, release)?;
+    let n = judge::tile_count(s);
+    let total = dimension_total(s, n);
+    if too_short(total, 5, 1, numbers.len(), starts.len()) {
+        return Err(Refusal {
+            fault: Fault::LentTooShort,
+            place: 0,
+        });
     }
+    put_dimensions(s, n, numbers, starts);
+    Ok(total)
 }

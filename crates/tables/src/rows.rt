@@ -1,27 +1,11 @@
 // A row of numbers put into a lent array.
-ghost use Rattle.std.specs.Prelude.{◌+◌, ◌^◌, ◌≤◌, length, pos};
+ghost use Rattle.std.specs.Prelude.{◌+◌, ◌≤◌, length};
 ghost use Rattle.tables.specs.Rows.{Stretch};
 
-// Puts the numbers of the row from number `at` on.
-pub fn put_numbers(numbers: &mut [u64], at: usize, row: &[u64])
-    requires { (at + length row.now ≤ length numbers.old) × (at + length row.now ≤ 2 ^ 32) }
-    ensures { Stretch 0 at (length row.now) row.now numbers.old numbers.new }
+// Puts the row from number `at` on.
+pub fn put_row<T: Copy>(array: &mut [T], at: usize, row: &[T])
+    requires { at + length row.now ≤ length array.old }
+    ensures { (none : T) → Stretch none at (length row.now) row.now array.old array.new }
 {
-    let mut i: usize = 0;
-    while i < row.len() {
-        numbers[at + i] = row[i];
-        i += 1;
-    }
-}
-
-// The same of signed numbers.
-pub fn put_starts(starts: &mut [i32], at: usize, row: &[i32])
-    requires { (at + length row.now ≤ length starts.old) × (at + length row.now ≤ 2 ^ 32) }
-    ensures { Stretch (pos 0) at (length row.now) row.now starts.old starts.new }
-{
-    let mut i: usize = 0;
-    while i < row.len() {
-        starts[at + i] = row[i];
-        i += 1;
-    }
+    array[at..at + row.len()].copy_from_slice(row);
 }

@@ -1,80 +1,41 @@
--- Laws of a text and of what is put after it. Assumes nothing.
-use Prim.Native.Nat.{ℕ, suc, ◌+◌, ◌-◌, ◌≤◌, ◌<◌}
-use mathlib.Core.Path.{◌≡◌, refl, sym, ap, ◌∙◌}
-use mathlib.Core.List.{List, [], ◌∷◌, ◌++◌, append-nil, append_assoc}
-use native.Mathlib.Omega.{arith}
-use native.Mathlib.Numerals.{add-one}
-use native.Mathlib.Nat.{add-zero}
-use lib.ListN.{length, get_or, take, drop, set, replicate, length-append, length-set}
-use lib.Seq.{length-take-le, take-suc, take-suc-set, set_split, drop_at, drop-drop, append_snoc}
-use Rattle.text.specs.declared.Text.{Text}
-use Rattle.text.specs.Text.{text_of, Clean, Appended}
+-- Words put at a text's end.
+use Rattle.std.proofs.Common.{◌≡◌, sym, ap, ◌∙◌, ℕ, ◌+◌, ◌-◌, ◌≤◌, List, ◌++◌, length, take, drop, replicate, append_assoc, arith, length-append, length-take-le}
+use Rattle.std.proofs.lemmas.List.{length-replicate, drop-replicate}
+use Rattle.std.proofs.lemmas.Slice.{take-put_mid}
+use Rattle.std.proofs.Math.Seq.{drop-append-add}
+use borrow.Rule.Slice.PartMut.{put_mid, post_of, Post-is}
+use Rattle.text.specs.Text.{padded}
+use Rattle.text.specs.Fields.{said, Clean}
+use Rattle.text.specs.declared.Text.TheInside.{Inside}
 
--- what a text says is as long as its length
-pub text-length : (t : Text) → Clean t → length (text_of t) ≡ t.length
-unfolding text_of
-text-length t h = length-take-le t.length t.bytes (omega arith)
+-- a text is as long as what it says
+pub length-said : (t : Inside) (l : List ℕ) → Clean t → said t ≡ l → t.length ≡ length l
+length-said t l h e = sym (length-take-le t.length t.bytes (omega arith)) ∙ ap length e
 
--- a text is itself with nothing after it
-pub appended-none : (t : Text) → Clean t → Appended t [] t
-appended-none t h = record { clean = h; text = sym (append-nil (text_of t)); length_is = sym (add-zero t.length) }
+zeros-behind : (l : List ℕ) (m : ℕ) → drop (length l + m) (padded l) ≡ replicate (192 - (length l + m)) 0
+zeros-behind l m =
+    let e : 192 - length l - m ≡ 192 - (length l + m) = omega arith in
+    drop-append-add l (replicate (192 - length l) 0) m ∙ drop-replicate m (192 - length l) 0 ∙ rw e
 
--- x, and y after that
-pub appended-both : (t u r : Text) (x y : List ℕ) → Appended t x u → Appended u y r → Appended t (x ++ y) r
-appended-both t u r x y a b =
-    record {
-      clean = b.clean;
-      text = b.text ∙ rw a.text (append_assoc (text_of t) x y);
-      length_is = simp length-append (omega arith);
-    }
+module _ (xs ws ys : List ℕ) (n : ℕ) (room : n + length ws ≤ 192) (whole : length xs ≡ 192) (rest : xs ≡ padded (take n xs)) (same : ys ≡ ws) where
+  pub said-more : take (n + length ws) (put_mid n (n + length ws - n) xs ys) ≡ take n xs ++ ws
+  said-more =
+      let e : n + length ws ≡ n + length ys = omega (arith, ap length same) in
+      take-put_mid n (n + length ws - n) xs ys (n + length ws) e (omega arith) ∙ rw same
 
--- a byte more than there are in x
-pub appended-more : (t u r : Text) (x : List ℕ) (i : ℕ) → i < length x → Appended t (take i x) u → Appended u (get_or x i 0 ∷ []) r
-    → Appended t (take (i + 1) x) r
-appended-more t u r x i h a b = rw (add-one, take-suc x i 0) (appended-both t u r (take i x) (get_or x i 0 ∷ []) a b)
+  zeros : post_of n (n + length ws - n) xs ≡ replicate (192 - (n + length ws)) 0
+  zeros =
+      let l : length (take n xs) ≡ n = length-take-le n xs (omega arith) in
+      let d : drop (n + length ws) xs ≡ drop (n + length ws) (padded (take n xs)) = ap (drop (n + length ws)) rest in
+      let z : drop (length (take n xs) + length ws) (padded (take n xs)) ≡ replicate (192 - (length (take n xs) + length ws)) 0 = zeros-behind (take n xs) (length ws) in
+      Post-is n (n + length ws) xs (omega arith) ∙ cc
 
--- the room that x takes at most
-pub appended-room : (t r : Text) (x : List ℕ) (k : ℕ) → Appended t x r → length x ≤ k → r.length ≤ t.length + k
-appended-room t r x k a h = omega arith
-
--- what is put after a text that says nothing is all that the text says
-pub appended-whole : (t r : Text) (x : List ℕ) → text_of t ≡ [] → Appended t x r → text_of r ≡ x
-appended-whole t r x e a = a.text ∙ rw e
-
-pub empty-length : (t : Text) → Clean t → text_of t ≡ [] → t.length ≡ 0
-empty-length t h e = sym (text-length t h) ∙ ap length e
-
--- ---- one byte after a text
-
-module _ (xs : List ℕ) (n m b : ℕ) (h : n < m) (e : length xs ≡ m) (r : xs ≡ take n xs ++ replicate (m - n) 0) where
-  zeros-before : drop n xs ≡ replicate (m - n) 0
-  zeros-before = ap (drop n) r ∙ drop_at (take n xs) (replicate (m - n) 0) n (length-take-le n xs (omega arith))
-
-  zeros-after : drop (suc n) xs ≡ replicate (m - suc n) 0
-  zeros-after =
-      let s : m - n ≡ suc (m - suc n) = omega arith in
-      let d : drop 1 (drop n xs) ≡ replicate (m - suc n) 0 = rw (zeros-before, s) in
-      let e : n + 1 ≡ suc n = add-one n in
-      rw (← e, ← drop-drop 1 n xs) (rw e d)
-
-  set_rest : set xs n b ≡ take (n + 1) (set xs n b) ++ replicate (m - (n + 1)) 0
-  set_rest =
-      let l : n < length xs = omega arith in
-      rw (add-one, take-suc-set xs n b l, set_split xs n b l, zeros-after) (sym (append_snoc (take n xs) b (replicate (m - suc n) 0)))
-
-pub appended-byte : (t : Text) (b : ℕ) → Clean t → t.length < 192
-    → Appended t (b ∷ []) (record { bytes = set t.bytes t.length b; length = t.length + 1 })
-unfolding text_of
-appended-byte t b h l =
-    let n = t.length in
-    let s = t.bytes in
-    let k : n < length s = omega arith in
-    record {
-      clean = record {
-        within = omega arith;
-        whole = simp length-set h.whole;
-        rest = set_rest s n 192 b l h.whole h.rest;
-      };
-      text = rw (add-one) (take-suc-set s n b k);
-      length_is = refl;
-    }
+  pub put-clean : Clean (record { bytes = put_mid n (n + length ws - n) xs ys; length = n + length ws })
+  put-clean =
+      let l : length (take n xs) ≡ n = length-take-le n xs (omega arith) in
+      let m : length (take n xs ++ ws) ≡ n + length ws = simp length-append (omega arith) in
+      record {
+        within = room;
+        whole = rw zeros (simp (length-append, length-replicate) (omega (arith, ap length same)));
+        rest = rw (said-more, zeros, same, m) (sym (append_assoc (take n xs) ws (replicate (192 - (n + length ws)) 0)));
+      }

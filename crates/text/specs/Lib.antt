@@ -1,2 +1,3 @@
 -- Lines of plain text.
 pub mod Text
+pub mod Fields

@@ -1,93 +1,110 @@
-// Lines of plain ASCII text, answered by value: an empty text, and each thing that is put after one.
+// Lines of plain ASCII text in fixed memory: an empty text, and what is put at a text's end.
 #![tactic(auto)]
 
-ghost use Rattle.std.specs.Prelude.{◌≡◌, [], ◌∷◌, ◌+◌, ◌^◌, ◌≤◌, ◌<◌, length};
-ghost use Rattle.text.specs.Text.{digits, decimal, signed_decimal, line, text_of, Clean, Appended};
+ghost use Rattle.std.specs.Prelude.{◌≡◌, ℤ, [], ◌∷◌, ◌++◌, ◌+◌, ◌≤◌, ◌<◌, length};
+ghost use Rattle.text.specs.Text.{decimal, signed_text, line, padded};
 
-// A text: its length, and its bytes, which are 0 from there on.
+use std::marker::Model;
+
+// A text of at most 192 bytes. Clauses see the list of the bytes that it says: those up to the length, past which all are 0.
 #[derive(Clone, Copy)]
 pub struct Text {
-    pub bytes: [u8; 192],
-    pub length: usize,
+    bytes: [u8; 192],
+    length: usize,
 }
 
-// The text that says nothing.
-pub fn empty() -> Text
-    ensures { Clean result × (text_of result ≡ []) }
-{
-    Text {
-        bytes: [0u8; 192],
-        length: 0,
+impl Model for Text {
+    ghost use Rattle.std.specs.Prelude.{List, ℕ};
+    ghost use Rattle.text.specs.Fields.{said, Clean, fields_of, fields-back};
+
+    ghost Value = { List ℕ };
+
+    ghost view = { said };
+
+    ghost invariant = { Clean };
+
+    ghost inverse = { fields_of };
+
+    ghost inverse_ok = { fields-back };
+}
+
+impl Text {
+    // The text that says nothing.
+    pub fn new() -> Self
+        ensures { result ≡ [] }
+    {
+        Text {
+            bytes: [0; 192],
+            length: 0,
+        }
     }
-}
 
-// The text with one byte more.
-pub fn push(t: Text, b: u8) -> Text
-    requires { Clean t × (t.length < 192) }
-    ensures { Appended t (b ∷ []) result }
-{
-    let mut next = t;
-    let at = next.length;
-    next.bytes[at] = b;
-    next.length = at + 1;
-    next
-}
-
-// The text with the bytes of name after it.
-pub fn put(t: Text, name: &[u8]) -> Text
-    requires { Clean t × (t.length + length name.now ≤ 192) }
-    ensures { Appended t name.now result }
-{
-    let mut next = t;
-    let mut i: usize = 0;
-    while i < name.len() {
-        next = push(next, name[i]);
-        i += 1;
+    // The bytes that are said.
+    pub fn as_bytes(&self) -> &[u8]
+        ensures said { result.now ≡ self.now }
+        ensures fits { length result.now ≤ 192 }
+    {
+        &self.bytes[..self.length]
     }
-    next
-}
 
-// The text with the decimal digits of x after it, of which there are at most n.
-pub fn put_digits(t: Text, n: u64, x: u64) -> Text
-    requires { Clean t × (t.length + n ≤ 192) }
-    ensures { Appended t (digits n x) result }
-{
-    if n == 0 {
-        return t;
+    // The same with zeros behind.
+    pub fn to_array(&self) -> [u8; 192]
+        ensures { result ≡ padded self.now }
+    {
+        self.bytes
     }
-    if x < 10 {
-        return push(t, (48 + x) as u8);
+
+    // Puts a byte.
+    pub fn push(&mut self, byte: u8)
+        requires { length self.old < 192 }
+        ensures { self.new ≡ self.old ++ byte ∷ [] }
+    {
+        self.bytes[self.length] = byte;
+        self.length += 1;
     }
-    let front = put_digits(t, n - 1, x / 10);
-    push(front, (48 + x % 10) as u8)
-}
 
-// The text with x in decimal after it.
-pub fn put_decimal(t: Text, x: u64) -> Text
-    requires { Clean t × (t.length + 20 ≤ 192) }
-    ensures { Appended t (decimal x) result }
-{
-    put_digits(t, 20, x)
-}
-
-// The text with a line after it: a name and a number.
-pub fn put_line(t: Text, name: &[u8], x: u64) -> Text
-    requires { Clean t × (t.length + length name.now + 21 ≤ 192) }
-    ensures { Appended t (line name.now (decimal x)) result × (result.length ≤ t.length + length name.now + 21) }
-{
-    let named = put(t, name);
-    let valued = put_decimal(named, x);
-    push(valued, 10)
-}
-
-// The text with the number b less 2^31 in decimal after it.
-pub fn put_signed(t: Text, b: u64) -> Text
-    requires { Clean t × (b < 2 ^ 32) × (t.length + 21 ≤ 192) }
-    ensures { Appended t (signed_decimal b) result }
-{
-    if b < 2147483648 {
-        let minus = push(t, 45);
-        return put_decimal(minus, 2147483648 - b);
+    // Puts bytes.
+    pub fn put(&mut self, words: &[u8])
+        requires { length self.old + length words.now ≤ 192 }
+        ensures { self.new ≡ self.old ++ words.now }
+    {
+        let end = self.length + words.len();
+        self.bytes[self.length..end].copy_from_slice(words);
+        self.length = end;
     }
-    put_decimal(t, b - 2147483648)
+
+    // Puts a number in decimal. By hand: `write!` does not say when it succeeds, and this always does.
+    pub fn put_decimal(&mut self, x: u64)
+        requires { length self.old + 20 ≤ 192 }
+        ensures said { self.new ≡ self.old ++ decimal x }
+        ensures most { length self.new ≤ length self.old + 20 }
+    {
+        if 10 <= x {
+            self.put_decimal(x / 10);
+        }
+        self.push(b'0' + (x % 10) as u8);
+    }
+
+    // Puts a signed number in decimal.
+    pub fn put_signed(&mut self, x: i32)
+        requires { length self.old + 21 ≤ 192 }
+        ensures said { self.new ≡ self.old ++ signed_text x }
+        ensures most { length self.new ≤ length self.old + 11 }
+    {
+        if x < 0 {
+            self.push(b'-');
+        }
+        self.put_decimal(u64::from(x.unsigned_abs()));
+    }
+
+    // Puts a line: a name and a number.
+    pub fn put_line(&mut self, name: &[u8], x: u64)
+        requires { length self.old + length name.now + 21 ≤ 192 }
+        ensures said { self.new ≡ self.old ++ line name.now (decimal x) }
+        ensures most { length self.new ≤ length self.old + length name.now + 21 }
+    {
+        self.put(name);
+        self.put_decimal(x);
+        self.push(b'\n');
+    }
 }

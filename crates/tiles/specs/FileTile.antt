@@ -1,6 +1,6 @@
 -- The tile of a file's entry as a composer sees it: its rank, the plane pixels that it gives, their bytes.
 -- A plane coordinate is the signed number plus 2 ^ 31.
-use Rattle.std.specs.Prelude.{ℕ, zero, suc, ◌+◌, ◌-◌, ◌*◌, List, [], ◌∷◌, Bool, true, false, cond, not, ◌&&◌, ◌||◌, get_or, ℤ, ltb}
+use Rattle.std.specs.Prelude.{ℕ, zero, suc, ◌+◌, ◌-◌, ◌*◌, List, [], ◌∷◌, Bool, true, false, cond, not, ◌&&◌, ◌||◌, get_or, ℤ, ltb, Option, None, Some}
 use Rattle.format.specs.Bytes.{any_below, biased}
 use Rattle.format.specs.Scan.{Scan}
 use Rattle.format.specs.Choice.{Choice, asked_layer}
@@ -10,7 +10,6 @@ use Rattle.format.specs.Masks.{mask_valid}
 use Rattle.format.specs.Records.{mask_of, tile_entry, tile_file, tile_position}
 use Rattle.format.specs.declared.Release.{Release}
 use Rattle.format.specs.declared.TileMask.{TileMask}
-use Rattle.format.specs.declared.TileMask.TheVariants.{Unmasked, Masked}
 use Rattle.plane.specs.Tiles.{Tile, covers}
 use Rattle.plane.specs.declared.Rect.{Rect}
 
@@ -38,9 +37,9 @@ meets a w =
     (ltb w.top (a.top + a.height) && ltb a.top (w.top + w.height))
 
 -- the pixel in column x and row y of a tile is not masked out
-abbrev pub unmasked : List ℕ → TileMask → ℕ → ℕ → Bool
-unmasked bs Unmasked x y = true
-unmasked bs (Masked c shape) x y = mask_valid bs c x y
+abbrev pub unmasked : List ℕ → Option TileMask → ℕ → ℕ → Bool
+unmasked bs None x y = true
+unmasked bs (Some m) x y = mask_valid bs m.place x y
 
 -- the tile of entry k, which stands at e of the file ds, its sub-block at q of the file bs; its layer l; masks on or off; under a release.
 -- The mask serves each layer

@@ -1,19 +1,18 @@
--- A row's stretch of a target and of a source that are lent whole.
-use mathlib.Core.Path.{◌≡◌, sym, ap, ap₂, ◌∙◌}
-use Prim.Native.Nat.{ℕ, ◌+◌, ◌*◌, ◌-◌, ◌^◌, ◌<◌}
-use native.Mathlib.Nat.{add-sub_of_le, add_assoc, lt_of_le_of_lt, le_trans, le-mul_of_pos_right, mul-le-mul_right}
+-- A row's stretch of a target that is lent whole.
+use mathlib.Core.Path.{◌≡◌, sym, ap, ◌∙◌}
+use Prim.Native.Nat.{ℕ, ◌+◌, ◌*◌, ◌-◌, ◌<◌}
+use native.Mathlib.Nat.{add-sub_of_le, mul-le-mul_right}
 use native.Mathlib.Omega.{arith}
 use mathlib.Core.List.{List}
 use mathlib.Core.Bool.{cond, ◌&&◌, and-false}
 use lib.Arith.{digits_lt}
 use lib.Dec.{leb, ltb}
-use lib.ListN.{length, get_or, drop, length-drop}
-use lib.Seq.{take_all}
+use lib.ListN.{length, get_or}
 use borrow.Author.Tests.{lt-ltb, le-ltb, le-leb, lt-leb}
 use borrow.Rule.Slice.PartMut.{mid_of, put_mid, mid_len}
 use Rattle.plane.proofs.PaintLaws.{paint-length, paint-in}
 use Rattle.paint.specs.declared.Row.{Row}
-use Rattle.paint.specs.RowPainting.{row_gives, RowRoom, RowPainted}
+use Rattle.paint.specs.RowPainting.{row_gives, RowPainted}
 use Rattle.paint.proofs.Painting.{by-range, painted-as}
 use Rattle.turns.specs.Turned.{StretchRoom, StretchPainted}
 use Rattle.turns.proofs.Parts.{mid_at, put-below, put_in, put-past, put-length}
@@ -25,50 +24,29 @@ begin row = row.first * row.bytes
 abbrev end : Row → ℕ → ℕ
 end row n = row.first * row.bytes + n * row.bytes
 
--- the parts that are lent to the row painter
+-- the part that is lent to the row painter
 abbrev stretch : List ℕ → Row → ℕ → List ℕ
 stretch t row n = mid_of (begin row) (end row n - begin row) t
 
-abbrev pixels : List ℕ → ℕ → Row → ℕ → List ℕ
-pixels src from row n = mid_of from (from + n * row.bytes - from) src
-
-abbrev line_from : List ℕ → ℕ → List ℕ
-line_from lines line = mid_of line (length lines - line) lines
-
-module _ {t m src : List ℕ} {from : ℕ} {lines : List ℕ} {line : ℕ} {row : Row} {n : ℕ} (h : StretchRoom t m src from lines line row n) where
-  -- what the row painter asks of them
-  pub stretch-room : length t < 2 ^ 64 → RowRoom (stretch t row n) m (pixels src from row n) (line_from lines line) row n
-  stretch-room l = record {
-    bytes = h.bytes;
-    target = rw (mid_len (begin row) (end row n) t (omega arith)) (omega arith);
-    source = rw (mid_len from (from + n * row.bytes) src h.source) (omega arith);
-    bits = h.bits;
-    mask = λ e. rw (mid_len line (length lines) lines (omega arith)) (h.mask e);
-    columns = h.columns;
-    number = lt_of_le_of_lt (le_trans (le-mul_of_pos_right (row.first + n) h.bytes) h.target) l;
-  }
-
-  -- what it does to them, said of the whole
-  pub stretch-painted : {ys m' : List ℕ} {r : ℕ} → RowPainted (stretch t row n) m (pixels src from row n) (line_from lines line) row n ys m' r
-      → StretchPainted t m src from lines line row n (put_mid (begin row) (end row n - begin row) t ys) m' r
+module _ {t m : List ℕ} {row : Row} {n : ℕ} (h : StretchRoom t m row n) where
+  -- what the row painter does to it, said of the whole
+  pub stretch-painted : {ys m' : List ℕ} {r : ℕ} → RowPainted (stretch t row n) m row n ys m' r
+      → StretchPainted t m row n (put_mid (begin row) (end row n - begin row) t ys) m' r
   stretch-painted {ys} {m'} {r} o = record {
     target = painted-as h.bytes (row.first + n) _ _ t _ (put-length (begin row) (end row n) t ys (omega arith) (omega arith) l) at;
-    map = o'.map;
-    given = o'.given;
+    map = o.map;
+    given = o.given;
   }
     where
       b : ℕ
       b = row.bytes
 
-      o' : RowPainted (stretch t row n) m (pixels src from row n) (drop line lines) row n ys m' r
-      o' = rw (take_all (length lines - line) (drop line lines) (rw length-drop (omega arith))) at o
-
       l : length ys ≡ end row n - begin row
       l = ap length o.target ∙ paint-length n b _ _ (stretch t row n) ∙ mid_len (begin row) (end row n) t (omega arith)
 
       at : (p q : ℕ) → q < b → p * b + q < length t → get_or (put_mid (begin row) (end row n - begin row) t ys) (p * b + q) 0
-          ≡ cond (ltb p (row.first + n) && (leb row.first p && row_gives m (drop line lines) row (p - row.first)))
-          (get_or src (from + (p - row.first) * b + q) 0) (get_or t (p * b + q) 0)
+          ≡ cond (ltb p (row.first + n) && (leb row.first p && row_gives m row (p - row.first)))
+          (get_or row.pixels.now ((p - row.first) * b + q) 0) (get_or t (p * b + q) 0)
       at p q hq _ =
           by-range row.first (row.first + n) p
           (λ e. put-below (begin row) (end row n) t ys (omega arith) (omega arith) l _ (digits_lt e hq)
@@ -79,10 +57,8 @@ module _ {t m src : List ℕ} {from : ℕ} {lines : List ℕ} {line : ℕ} {row 
           let small : i * b + q < n * b = digits_lt (omega arith) hq in
           rw (lt-ltb p (row.first + n) f, le-leb row.first p e, place)
           (put_in (begin row) (end row n) t ys (omega arith) (omega arith) l (i * b + q) (omega arith)
-          ∙ ap (λ (z : List ℕ). get_or z (i * b + q) 0) o'.target
+          ∙ ap (λ (z : List ℕ). get_or z (i * b + q) 0) o.target
           ∙ paint-in n b _ _ (stretch t row n) (rw (mid_len (begin row) (end row n) t (omega arith)) (omega arith)) i q (omega arith) hq
-          ∙ ap₂ (cond (row_gives m (drop line lines) row i))
-          (mid_at from (from + n * b) src (i * b + q) (omega arith) ∙ ap (λ (z : ℕ). get_or src z 0) (sym (add_assoc from (i * b) q)))
-          (mid_at (begin row) (end row n) t (i * b + q) (omega arith))))
+          ∙ ap (cond (row_gives m row i) (get_or row.pixels.now (i * b + q) 0)) (mid_at (begin row) (end row n) t (i * b + q) (omega arith))))
           (λ e. put-past (begin row) (end row n) t ys (omega arith) (omega arith) l _ (omega (arith, mul-le-mul_right b e))
           ∙ rw (le-ltb p (row.first + n) e))

@@ -4,9 +4,9 @@ use Prim.Native.Nat.{ℕ, ◌+◌, ◌*◌, ◌-◌, ◌≤◌, ◌<◌}
 use native.Mathlib.Nat.{add-sub_of_le, add-sub_cancel_left, le-add_right}
 use native.Mathlib.Omega.{arith}
 use mathlib.Core.List.{List}
-use mathlib.Core.Bool.{Bool, true, false, ◌||◌, and-true, and-false}
+use mathlib.Core.Bool.{Bool, true, false, ◌||◌, and-false}
 use lib.Dec.{leb}
-use lib.ListN.{length, get_or, drop}
+use lib.ListN.{length, get_or}
 use borrow.Author.Tests.{le-ltb}
 use Rattle.plane.specs.Sums.{one, count}
 use Rattle.plane.specs.Tiles.{Tile, area, col_of, row_of, gives_at}
@@ -16,6 +16,8 @@ use Rattle.plane.specs.declared.Rect.{Rect}
 use Rattle.plane.proofs.SumLaws.{sum-ext, sum-add, count_none}
 use Rattle.plane.proofs.PaintLaws.{Bytes, paint-none, mark-bit, mark-bytes, mark-noop}
 use Rattle.paint.specs.declared.Row.{Row}
+use Rattle.paint.specs.declared.Turn.{Turn}
+use Rattle.paint.specs.declared.Turn.TheVariants.{Plain, Quick}
 use Rattle.paint.specs.RowPainting.{valid_at, gives_pixel, row_gives}
 use Rattle.paint.proofs.Painting.{paint-then, mark-then}
 use Rattle.turns.specs.Turned.{StretchPainted, kind_of}
@@ -27,11 +29,11 @@ pub record Done (b : ℕ) (on : ℕ → Bool) (px : ℕ → ℕ → ℕ) (t₀ m
   pub given : g ≡ count n on
 
 -- the bit is set as well by all that is valid
-gives-or : (q v s : Bool) → (v || s) ≡ (gives_pixel q v s || s)
-gives-or q false s = refl
-gives-or true true true = refl
-gives-or true true false = refl
-gives-or false true s = refl
+gives-or : (q : Turn) (v s : Bool) → (v || s) ≡ (gives_pixel q v s || s)
+gives-or Plain v s = refl
+gives-or Quick true true = refl
+gives-or Quick true false = refl
+gives-or Quick false s = refl
 
 module _ {b : ℕ} {on : ℕ → Bool} {px : ℕ → ℕ → ℕ} {t₀ m₀ : List ℕ} (hb : 1 ≤ b) (hm : Bytes m₀) where
   -- pixels of which none is given are done with nothing, from the first on and after others
@@ -59,18 +61,17 @@ module _ {b : ℕ} {on : ℕ → Bool} {px : ℕ → ℕ → ℕ} {t₀ m₀ : L
 
 -- a stretch
 module _ {row : Row} {on : ℕ → Bool} {px : ℕ → ℕ → ℕ} {t₀ m₀ : List ℕ} (hb : 1 ≤ row.bytes) (hm : Bytes m₀) where
-  pub done-stretch : {src lines t₁ m₁ t₂ m₂ : List ℕ} {from line n g r : ℕ} → Done row.bytes on px t₀ m₀ row.first t₁ m₁ g
-      → StretchPainted t₁ m₁ src from lines line row n t₂ m₂ r → row.first + n ≤ 8 * length m₀
-      → ((p : ℕ) → row.first ≤ p → p < row.first + n
-      → on p ≡ gives_pixel row.quick (valid_at (drop line lines) row (p - row.first)) (bit m₀ p))
-      → ((p j : ℕ) → row.first ≤ p → p < row.first + n → j < row.bytes → get_or src (from + (p - row.first) * row.bytes + j) 0 ≡ px p j)
+  pub done-stretch : {t₁ m₁ t₂ m₂ : List ℕ} {n g r : ℕ} → Done row.bytes on px t₀ m₀ row.first t₁ m₁ g
+      → StretchPainted t₁ m₁ row n t₂ m₂ r → row.first + n ≤ 8 * length m₀
+      → ((p : ℕ) → row.first ≤ p → p < row.first + n → on p ≡ gives_pixel row.turn (valid_at row (p - row.first)) (bit m₀ p))
+      → ((p j : ℕ) → row.first ≤ p → p < row.first + n → j < row.bytes → get_or row.pixels.now ((p - row.first) * row.bytes + j) 0 ≡ px p j)
       → Done row.bytes on px t₀ m₀ (row.first + n) t₂ m₂ (g + r)
-  done-stretch {lines = lines} {m₁ = m₁} {line = line} {n} o c room valid bytes = record {
+  done-stretch {m₁ = m₁} {n = n} o c room valid bytes = record {
     target = c.target ∙ ap (paint (row.first + n) row.bytes _ _) o.target ∙ paint-then (le-add_right _ n) on _ hb px _ t₀ gave bytes;
     map =
         c.map ∙ ap (mark (row.first + n) _) o.map
         ∙ mark-then (le-add_right _ n) on _ m₀ hm
-        (λ p l h. rw (valid p l h) (gives-or row.quick (valid_at (drop line lines) row (p - row.first)) (bit m₀ p)));
+        (λ p l h. rw (valid p l h) (gives-or row.turn (valid_at row (p - row.first)) (bit m₀ p)));
     given =
         ap₂ ◌+◌ o.given
         (c.given ∙ sum-ext n _ _ (λ i h. ap one (rw (add-sub_cancel_left row.first i) at (gave (row.first + i) (le-add_right _ i) (omega arith)))))
@@ -80,15 +81,15 @@ module _ {row : Row} {on : ℕ → Bool} {px : ℕ → ℕ → ℕ} {t₀ m₀ :
       still : (p : ℕ) → row.first ≤ p → p < row.first + n → bit m₁ p ≡ bit m₀ p
       still p l h = rw o.map (mark-bit row.first on m₀ p (omega arith) ∙ rw (le-ltb p row.first l))
 
-      gave : (p : ℕ) → row.first ≤ p → p < row.first + n → row_gives m₁ (drop line lines) row (p - row.first) ≡ on p
+      gave : (p : ℕ) → row.first ≤ p → p < row.first + n → row_gives m₁ row (p - row.first) ≡ on p
       gave p l h = rw (add-sub_of_le l, still p l h) (sym (valid p l h))
 
 -- all of a tile's turn; the row painter's test is the turn's
-kind-gives : (q : Bool) (w : Rect) (t : Tile) (m : List ℕ) (p : ℕ) → gives_pixel q (gives_at w t p) (bit m p) ≡ turn_gives (kind_of q) w t m p
-kind-gives true w t m p = refl
-kind-gives false w t m p = and-true (gives_at w t p)
+kind-gives : (q : Turn) (w : Rect) (t : Tile) (m : List ℕ) (p : ℕ) → gives_pixel q (gives_at w t p) (bit m p) ≡ turn_gives (kind_of q) w t m p
+kind-gives Quick w t m p = refl
+kind-gives Plain w t m p = refl
 
-pub done_all : (q : Bool) (w : Rect) (b : ℕ) (t : Tile) {t₀ m₀ t₁ m₁ : List ℕ} (stored : ℕ) {g : ℕ}
+pub done_all : (q : Turn) (w : Rect) (b : ℕ) (t : Tile) {t₀ m₀ t₁ m₁ : List ℕ} (stored : ℕ) {g : ℕ}
     → Done b (λ p. gives_pixel q (gives_at w t p) (bit m₀ p)) (λ p j. t.byte (col_of w p) (row_of w p) j) t₀ m₀ (area w) t₁ m₁ g
     → ◌≡◌ {A = Painting} (record { target = t₁; map = m₁; stored = stored + g })
     (turn (kind_of q) w b t (record { target = t₀; map = m₀; stored = stored }))

@@ -1,19 +1,28 @@
 // A tile's turn: the rows of the tile that meet the window, each painted into its own stretch of the target.
 #![tactic(auto)]
 
-ghost use Rattle.std.specs.Prelude.{◌≡◌, ◌+◌, ◌*◌, ◌<◌, min, max, ◌^◌};
-ghost use Rattle.turns.specs.Turned.{Clipped, LineOf, StretchRoom, StretchPainted, TurnRoom, Turned};
+ghost use Rattle.std.specs.Prelude.{◌≡◌, ◌+◌, ◌*◌, ◌<◌, ◌≤◌, ◌^◌};
+ghost use Rattle.turns.specs.Turned.{Clipped, MaskWhole, LineOf, TileWhole, RowOf, StretchRoom, StretchPainted, TurnRoom, Turned};
 
-use paint::Row;
+use paint::{MaskLine, Row, Turn};
 use plane::Rect;
 
-// Whether a tile is masked, and its mask's columns, rows, and bytes a line.
+// A tile's mask: its columns, rows, and bytes a line, and its lines, one after the other.
 #[derive(Clone, Copy)]
-pub struct Mask {
-    pub on: bool,
+pub struct Mask<'a> {
     pub width: usize,
     pub height: usize,
     pub stride: usize,
+    pub lines: &'a [u8],
+}
+
+// A tile as it is lent: its rectangle in the plane, the bytes of a pixel, its pixels row by row, and its mask if it has one.
+#[derive(Clone, Copy)]
+pub struct LentTile<'a> {
+    pub place: Rect,
+    pub bytes: usize,
+    pub pixels: &'a [u8],
+    pub mask: Option<Mask<'a>>,
 }
 
 // The part of the plane where a window and a tile meet; right and bottom are exclusive.
@@ -25,128 +34,84 @@ pub struct Clip {
     pub bottom: usize,
 }
 
-// A line of a mask: its first byte among the lines, and how many columns it has.
-#[derive(Clone, Copy)]
-pub struct MaskLine {
-    pub start: usize,
-    pub width: usize,
-}
-
-// The greater of two numbers.
-fn greater(a: usize, b: usize) -> usize
-    ensures { result ≡ max a b }
-{
-    if a < b { b } else { a }
-}
-
-// The lesser of two numbers.
-fn lesser(a: usize, b: usize) -> usize
-    ensures { result ≡ min a b }
-{
-    if a < b { a } else { b }
-}
-
 // Where the window w and the tile's rectangle a meet.
 pub fn meeting(w: Rect, a: Rect) -> Clip
     requires { (w.left + w.width < 2 ^ 64) × (w.top + w.height < 2 ^ 64) × (a.left + a.width < 2 ^ 64) × (a.top + a.height < 2 ^ 64) }
     ensures { Clipped w a result }
 {
     Clip {
-        left: greater(w.left, a.left),
-        right: lesser(w.left + w.width, a.left + a.width),
-        top: greater(w.top, a.top),
-        bottom: lesser(w.top + w.height, a.top + a.height),
+        left: w.left.max(a.left),
+        right: (w.left + w.width).min(a.left + a.width),
+        top: w.top.max(a.top),
+        bottom: (w.top + w.height).min(a.top + a.height),
     }
 }
 
-// The line of a mask for a tile's row: none where the mask is off or has no such row.
-pub fn mask_line(k: Mask, row: usize) -> MaskLine
-    requires { k.height * k.stride < 2 ^ 64 }
-    ensures { LineOf k row result }
-{
-    if k.on {
-        if row < k.height {
-            return MaskLine {
-                start: row * k.stride,
-                width: k.width,
-            };
+impl<'a> Mask<'a> {
+    // The line of a tile's row, whose first pixel is in the column given: one with no columns where the mask has no such row.
+    pub fn line(&self, row: usize, column: usize) -> MaskLine<'a>
+        requires { MaskWhole self.now }
+        ensures { LineOf self.now row column result }
+    {
+        if row < self.height {
+            MaskLine {
+                bits: &self.lines[row * self.stride..],
+                columns: self.width,
+                column,
+            }
+        } else {
+            MaskLine {
+                bits: b"",
+                columns: 0,
+                column,
+            }
         }
-        return MaskLine { start: 0, width: 0 };
     }
-    MaskLine { start: 0, width: 0 }
+}
+
+impl<'a> LentTile<'a> {
+    // The tile's row number `row` from its column number `column` on, whose pixel there has map bit number `first`.
+    fn row(&self, row: usize, column: usize, first: usize, turn: Turn) -> Row<'a>
+        requires { TileWhole self.now × (1 ≤ self.now.bytes) × (row < self.now.place.height) × (column < self.now.place.width) }
+        ensures { RowOf self.now row column first turn result }
+    {
+        let from = (row * self.place.width + column) * self.bytes;
+        Row {
+            first,
+            bytes: self.bytes,
+            pixels: &self.pixels[from..],
+            mask: self.mask.map(|mask| mask.line(row, column)),
+            turn,
+        }
+    }
 }
 
 // A row's part of a turn: the row's stretch, which starts in the middle of the lent target, is lent on to the row painter.
-pub fn paint_stretch(
-    target: &mut [u8],
-    map: &mut [u8],
-    src: &[u8],
-    from: usize,
-    lines: &[u8],
-    line: usize,
-    row: Row,
-    n: usize,
-) -> usize
-    requires { StretchRoom target.old map.old src.now from lines.now line row n }
-    ensures { StretchPainted target.old map.old src.now from lines.now line row n target.new map.new result }
+pub fn paint_stretch(target: &mut [u8], map: &mut [u8], row: &Row, n: usize) -> usize
+    requires { StretchRoom target.old map.old row.now n }
+    ensures { StretchPainted target.old map.old row.now n target.new map.new result }
 {
-    let b = row.bytes;
-    let a = row.first * b;
-    let c = n * b;
-    let e = a + c;
-    let f = from + c;
-    paint::paint_row(
-        &mut target[a..e],
-        map,
-        &src[from..f],
-        &lines[line..],
-        row,
-        n,
-    )
+    let a = row.first * row.bytes;
+    let e = a + n * row.bytes;
+    paint::paint_row(&mut target[a..e], map, row, n)
 }
 
-// A tile's turn in the window w: a is the tile's rectangle, src its pixels, k its mask with its lines. The result is what it adds to the store count.
-pub fn paint_tile(
-    target: &mut [u8],
-    map: &mut [u8],
-    w: Rect,
-    a: Rect,
-    src: &[u8],
-    b: usize,
-    k: Mask,
-    lines: &[u8],
-    quick: bool,
-) -> usize
-    requires { TurnRoom target.old map.old w a src.now b k lines.now }
-    ensures { Turned target.old map.old w a src.now b k lines.now quick target.new map.new result }
+// A tile's turn in the window w. The result is what it adds to the store count.
+pub fn paint_tile(target: &mut [u8], map: &mut [u8], w: Rect, tile: &LentTile, turn: Turn) -> usize
+    requires { TurnRoom target.old map.old w tile.now }
+    ensures { Turned target.old map.old w tile.now turn target.new map.new result }
 {
+    let a = tile.place;
     let c = meeting(w, a);
-    if c.right <= c.left {
-        return 0;
-    }
-    if c.bottom <= c.top {
+    if c.right <= c.left || c.bottom <= c.top {
         return 0;
     }
     let n = c.right - c.left;
-    let x = c.left - a.left;
-    let col = c.left - w.left;
-    let end = c.bottom - w.top;
-    let mut y = c.top - w.top;
-    let mut given: usize = 0;
-    while y < end {
-        let v = y + w.top - a.top;
-        let l = mask_line(k, v);
-        let from = (v * a.width + x) * b;
-        let row = Row {
-            first: y * w.width + col,
-            bytes: b,
-            masked: k.on,
-            columns: l.width,
-            column: x,
-            quick,
-        };
-        given += paint_stretch(target, map, src, from, lines, l.start, row, n);
-        y += 1;
+    let mut given = 0;
+    for y in c.top - w.top..c.bottom - w.top {
+        let first = y * w.width + (c.left - w.left);
+        let row = tile.row(y + w.top - a.top, c.left - a.left, first, turn);
+        given += paint_stretch(target, map, &row, n);
     }
     given
 }

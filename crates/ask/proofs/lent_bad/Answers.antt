@@ -1,4 +1,6 @@
 -- `ask::lent_bad` meets its contract.
+use Prim.Native.Nat.{◌+◌, ◌*◌, ◌/◌}
+use mathlib.Core.Path.{◌≡◌}
 use native.Mathlib.Omega.{arith}
 use Rattle.format.proofs.Flags.{flags}
 use Rattle.question.specs.Question.{lent_bad}
@@ -15,13 +17,8 @@ pub returns-then-target-area : goal.returns-then-target-area
 unfolding lent_bad
 returns-then-target-area c = rw (← c.pixel_bytes.ensures) (search flags depth 6)
 
-pub overflow_add-area : goal.overflow_add-area
-overflow_add-area c = omega (arith, area-most _ c.requires)
-
-pub returns-then-map-area : goal.returns-then-map-area
+pub returns-else-target-area : goal.returns-else-target-area
 unfolding lent_bad
-returns-then-map-area c = search flags depth 6
-
-pub returns : goal.returns
-unfolding lent_bad
-returns c = rw (← c.pixel_bytes.ensures) (search flags depth 6)
+returns-else-target-area c =
+    let bytes : c.div_ceil.result ≡ (c.args.f.height * c.args.f.width + 7) / 8 = omega (arith, c.div_ceil.ensures) in
+    rw bytes (rw (← c.pixel_bytes.ensures) (search flags depth 6))

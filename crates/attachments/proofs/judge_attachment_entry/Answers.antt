@@ -8,7 +8,8 @@ use native.Mathlib.Omega.{arith}
 use Rattle.format.specs.Segments.{walked_as}
 use Rattle.format.specs.Names.{name_attachment}
 use Rattle.format.specs.Attachments.{attachment_bad, attachment_data_bad, attachment_entry_rows}
-use Rattle.format.specs.declared.Verdict.TheVariants.{Refused}
+use Rattle.format.specs.Checks.{Refused}
+use Rattle.format.specs.declared.Fault.{Fault}
 use Rattle.format.proofs.Flags.{cond-true, is_true, is_false, not-is-true, not-is-false, eq_yes, eq_no}
 use Rattle.attachments.proofs.AttachmentLaws.{walked-in, attachment-fits}
 use Rattle.attachments.proofs.judge_attachment_entry.Goals as goal
@@ -33,7 +34,7 @@ module _ (bs : List ℕ) (p q : ℕ) (i : p ≡ q) (r v : Bool) where
   data_is f h = rw (← i) (sym f ∙ h)
 
 -- a refusal at the position that was read
-refused-at : (m p q : ℕ) → p ≡ q → Refused m p ≡ Refused m q
+refused-at : (m : Fault) (p q : ℕ) → p ≡ q → Refused m p ≡ Refused m q
 refused-at m p q i = ap (Refused m) i
 
 pub returns-then-attachment_entry_bad : goal.returns-then-attachment_entry_bad
@@ -54,11 +55,11 @@ returns-then-attachment_part-ne0 c =
       is_false _ _ c.attachment_entry_bad.ensures c.if-attachment_entry_bad.false,
     )
 
-pub returns-then-not-walked_as : goal.returns-then-not-walked_as
+pub returns-then-not-names : goal.returns-then-not-names
 unfolding attachment_entry_rows name_attachment
-returns-then-not-walked_as c =
+returns-then-not-names c =
     rw (
-      walked-is _ _ _ c.attachment_position-q.ensures _ _ _ c.walked_as.ensures c.if-not-walked_as.true,
+      walked-is _ _ _ c.attachment_position-q.ensures _ _ _ c.names.ensures c.if-not-names.true,
       is-0 _ _ c.attachment_part.ensures.0 c.if-attachment_part-ne0.false,
       is_false _ _ c.attachment_entry_bad.ensures c.if-attachment_entry_bad.false,
     )
@@ -68,7 +69,7 @@ unfolding attachment_entry_rows name_attachment
 returns-then-attachment_bad c =
     rw (
       copy_is _ _ _ c.attachment_position-q.ensures _ _ _ c.attachment_bad.ensures c.if-attachment_bad.true,
-      walked-is _ _ _ c.attachment_position-q.ensures _ _ _ c.walked_as.ensures c.if-not-walked_as.false,
+      walked-is _ _ _ c.attachment_position-q.ensures _ _ _ c.names.ensures c.if-not-names.false,
       is-0 _ _ c.attachment_part.ensures.0 c.if-attachment_part-ne0.false,
       is_false _ _ c.attachment_entry_bad.ensures c.if-attachment_entry_bad.false,
     ) (search refused-at)
@@ -79,7 +80,7 @@ returns-then-attachment_data_bad c =
     rw (
       data_is _ _ _ c.attachment_position-q.ensures _ _ c.attachment_data_bad.ensures c.if-attachment_data_bad.true,
       copy_is _ _ _ c.attachment_position-q.ensures _ _ _ c.attachment_bad.ensures c.if-attachment_bad.false,
-      walked-is _ _ _ c.attachment_position-q.ensures _ _ _ c.walked_as.ensures c.if-not-walked_as.false,
+      walked-is _ _ _ c.attachment_position-q.ensures _ _ _ c.names.ensures c.if-not-names.false,
       is-0 _ _ c.attachment_part.ensures.0 c.if-attachment_part-ne0.false,
       is_false _ _ c.attachment_entry_bad.ensures c.if-attachment_entry_bad.false,
     ) (search refused-at)
@@ -90,7 +91,7 @@ returns c =
     rw (
       data_is _ _ _ c.attachment_position-q.ensures _ _ c.attachment_data_bad.ensures c.if-attachment_data_bad.false,
       copy_is _ _ _ c.attachment_position-q.ensures _ _ _ c.attachment_bad.ensures c.if-attachment_bad.false,
-      walked-is _ _ _ c.attachment_position-q.ensures _ _ _ c.walked_as.ensures c.if-not-walked_as.false,
+      walked-is _ _ _ c.attachment_position-q.ensures _ _ _ c.names.ensures c.if-not-names.false,
       is-0 _ _ c.attachment_part.ensures.0 c.if-attachment_part-ne0.false,
       is_false _ _ c.attachment_entry_bad.ensures c.if-attachment_entry_bad.false,
     )

@@ -42,7 +42,7 @@ attachment_entry_count-requires c = omega (arith, within _ _ _ c.attachment_dire
 
 pub judge_attachment_entries-requires : goal.judge_attachment_entries-requires
 unfolding attachment_entry
-judge_attachment_entries-requires c = record { walk_table = c.requires.walk_table; n_in_bounds = rw c.attachment_entry_count.ensures.0 (within _ _ _ c.attachment_directory_position-t.ensures c.requires.room_in c.if-t-eq0.false _ c.attachment_directory_bad.ensures c.if-attachment_directory_bad.false) }
+judge_attachment_entries-requires c = rw c.attachment_entry_count.ensures.0 (within _ _ _ c.attachment_directory_position-t.ensures c.requires.room_in c.if-t-eq0.false _ c.attachment_directory_bad.ensures c.if-attachment_directory_bad.false)
 
 pub returns : goal.returns
 unfolding attachments_rows attachment_directory_rows

@@ -11,13 +11,13 @@ returns-then-k-j c =
     let a = c.args in
     c.set_part.ensures ∙ marked-ext a.map.now (omega arith) (omega arith)
 
-pub returns : goal.returns
-returns c =
+pub returns-else-k-j : goal.returns-else-k-j
+returns-else-k-j c =
     let a = c.args in
     let m = a.map.now in
     let k = a.from / 8 in
     let j = a.to / 8 in
     range-then m (λ k. search rules) (omega arith) (omega arith) (omega arith)
     (range-then m (λ k. search rules) (omega arith) (omega arith) (omega arith)
-    c.set_part-2.ensures c.set_whole.ensures) c.set_part-3.ensures
+    c.set_part-else-k-j.ensures c.set_whole.ensures) c.set_part-else-k-j-2.ensures
     ∙ marked-ext m (omega arith) (omega arith)

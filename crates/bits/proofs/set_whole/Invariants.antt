@@ -1,12 +1,8 @@
 use mathlib.Core.Path.{◌≡◌}
-use Prim.Native.Nat.{◌*◌, ◌-◌, ◌≤◌}
+use Prim.Native.Nat.{◌*◌}
 use lib.Dec.{leb}
-use lib.ListN.{length}
 use Rattle.plane.specs.Paint.{mark}
 use Rattle.bits.proofs.set_whole.Given as goal
 
 abbrev pub invariant-loop-i : goal.invariant-loop-i
-invariant-loop-i l = (l.k ≤ l.i) × (l.i ≤ l.j) × (l.map ≡ mark (8 * l.i) (λ q. leb (8 * l.k) q) l.initial.map) × (length l.map ≡ length l.initial.map)
-
-abbrev pub decreases-loop-i : goal.decreases-loop-i
-decreases-loop-i l = l.j - l.i
+invariant-loop-i l = l.map ≡ mark (8 * l.i) (λ q. leb (8 * l.k) q) l.initial.map

@@ -1,15 +1,14 @@
 -- `blank::repeat` meets its contract.
-use native.Mathlib.Omega.{arith}
 use Rattle.blank.proofs.Repeats.{repeating-start, repeating-next, repeating-end}
 use Rattle.blank.proofs.repeat.Goals as goal
 
-pub loop-w-init : goal.loop-w-init
-loop-w-init c = search repeating-start
+pub loop-k-init : goal.loop-k-init
+loop-k-init c = search repeating-start
 
-pub loop-w-preserved : goal.loop-w-preserved
-loop-w-preserved c =
-    repeating-next c.loop-w.invariant c.requires.3 (omega arith) c.copy_within.ensures c.wider-w.ensures
+pub loop-k-preserved : goal.loop-k-preserved
+loop-k-preserved c =
+    repeating-next c.loop-k.invariant c.requires.3 c.loop-k-test.true c.min-n.ensures c.split_at_mut-done.ensures.front
+    c.split_at_mut-done.ensures.back c.copy_from_slice.ensures.after c.wider-w.ensures
 
 pub returns : goal.returns
-returns c =
-    repeating-end c.loop-w.invariant c.requires.3 (omega arith) c.copy_within-2.ensures
+returns c = repeating-end c.loop-k.invariant c.loop-k-test.false

@@ -20,10 +20,10 @@ pub bounds-marks-k : goal.bounds-marks-k
 bounds-marks-k c = search marking-room
 
 pub overflow_add-selected : goal.overflow_add-selected
-overflow_add-selected c = omega (arith, selected-most _ _ _ _ _ _ _ _ _ _ _ c.loop-k.invariant _ c.one_from-selected.ensures.1 c.loop-k-test.true)
+overflow_add-selected c = omega (arith, selected-most _ _ _ _ _ _ _ _ _ _ _ c.loop-k.invariant _ _ c.from-selected.ensures c.loop-k-test.true)
 
 pub overflow_add-meeting : goal.overflow_add-meeting
-overflow_add-meeting c = omega (arith, meeting-most _ _ _ _ _ _ _ _ _ _ _ c.loop-k.invariant _ c.one_from-meeting.ensures.1 c.loop-k-test.true)
+overflow_add-meeting c = omega (arith, meeting-most _ _ _ _ _ _ _ _ _ _ _ c.loop-k.invariant _ _ c.from-meeting.ensures c.loop-k-test.true)
 
 pub next_entry-e-requires : goal.next_entry-e-requires
 next_entry-e-requires c = search (at-fixed, marking-all)

@@ -1,5 +1,5 @@
 -- `cover::count_words` meets its contract.
-use mathlib.Core.Path.{◌≡◌, ap, ◌∙◌}
+use mathlib.Core.Path.{◌≡◌, ap}
 use mathlib.Core.List.{List}
 use Prim.Native.Nat.{ℕ, ◌+◌, ◌*◌, ◌≤◌}
 use lib.Count as Count
@@ -18,16 +18,10 @@ next : (m : List ℕ) (k : ℕ) {s w : ℕ} → s ≡ ones (64 * k) m → w ≡ 
 next m k e f h = (omega (arith, ap Count.ones f, next_word m h k), ones-bound _ m)
 
 pub loop-k-init : goal.loop-k-init
-loop-k-init c = (omega arith, no_bits _)
-
-pub overflow_cast-sum : goal.overflow_cast-sum
-overflow_cast-sum c = let s = next c.args.map.now c.loop-k.k c.loop-k.invariant.1 c.u64_at.ensures (λ i. search rules) in omega arith
+loop-k-init c = no_bits _
 
 pub overflow_add-sum : goal.overflow_add-sum
-overflow_add-sum c = let s = next c.args.map.now c.loop-k.k c.loop-k.invariant.1 c.u64_at.ensures (λ i. search rules) in omega arith
+overflow_add-sum c = let s = next c.args.map.now c.loop-k.k c.loop-k.invariant c.u64_at.ensures (λ i. search rules) in omega arith
 
 pub loop-k-preserved : goal.loop-k-preserved
-loop-k-preserved c = (omega arith, (next c.args.map.now c.loop-k.k c.loop-k.invariant.1 c.u64_at.ensures (λ i. search rules)).0)
-
-pub returns : goal.returns
-returns c = c.loop-k.invariant.1 ∙ ap (λ (k : ℕ). ones (64 * k) c.args.map.now) (omega arith)
+loop-k-preserved c = (next c.args.map.now c.loop-k.k c.loop-k.invariant c.u64_at.ensures (λ i. search rules)).0

@@ -1,10 +1,7 @@
 use mathlib.Core.Path.{◌≡◌}
-use Prim.Native.Nat.{◌*◌, ◌-◌, ◌≤◌}
+use Prim.Native.Nat.{◌*◌}
 use Rattle.plane.specs.Paint.{ones}
 use Rattle.cover.proofs.count_words.Given as goal
 
 abbrev pub invariant-loop-k : goal.invariant-loop-k
-invariant-loop-k l = (l.k ≤ l.words) × (l.sum ≡ ones (64 * l.k) l.map)
-
-abbrev pub decreases-loop-k : goal.decreases-loop-k
-decreases-loop-k l = l.words - l.k
+invariant-loop-k l = l.sum ≡ ones (64 * l.k) l.map

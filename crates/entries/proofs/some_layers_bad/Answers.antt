@@ -1,29 +1,14 @@
 -- `entries::some_layers_bad` meets its contract.
-use native.Mathlib.Omega.{arith}
-use Rattle.format.specs.Entry.{next_entry}
-use Rattle.entries.proofs.Passed.{passed_start, passed-next, passed-found, passed-end}
+use native.Mathlib.Nat.{sub-zero}
+use Rattle.std.proofs.Common.{rules, tests, ◌∙◌, refl}
+use Rattle.std.proofs.lemmas.Iterator.{YieldsList-from_range}
+use Rattle.std.proofs.lemmas.Iterator.Search.{any_from_yields_List}
+use Rattle.format.specs.Entry.{dimension_count, layers_bad}
+use Rattle.format.proofs.Ranges.{any-range}
 use Rattle.entries.proofs.some_layers_bad.Goals as goal
 
-pub dimension_count-n-requires : goal.dimension_count-n-requires
-unfolding next_entry
-dimension_count-n-requires c = omega arith
-
-pub loop-k-init : goal.loop-k-init
-unfolding next_entry
-loop-k-init c = passed_start _ _
-
-pub layers_bad-requires : goal.layers_bad-requires
-unfolding next_entry
-layers_bad-requires c = omega arith
-
-pub returns-then-layers_bad : goal.returns-then-layers_bad
-unfolding next_entry
-returns-then-layers_bad c = search passed-found
-
-pub loop-k-preserved : goal.loop-k-preserved
-unfolding next_entry
-loop-k-preserved c = search passed-next
-
 pub returns : goal.returns
-unfolding next_entry
-returns c = search passed-end
+returns c =
+    any_from_yields_List (layers_bad c.args.s.now c.args.e) _ _ _ c.any.ensures.ran (YieldsList-from_range 0 c.dimension_count-n.result c.dimension_count-n.result refl (rw sub-zero))
+    (λ x b q k. search (rules, tests))
+    ∙ rw (← c.dimension_count-n.ensures.0) (any-range c.dimension_count-n.result (layers_bad c.args.s.now c.args.e))

@@ -1,15 +1,8 @@
 -- `fields::copy_out` meets its contract.
-use Rattle.fields.proofs.Copying.{copying-start, copying-next, copying-end}
+use native.Mathlib.Nat.{add-sub_cancel_left}
+use Rattle.format.specs.Bytes.{part_of}
 use Rattle.fields.proofs.copy_out.Goals as goal
 
-pub loop-i-init : goal.loop-i-init
-loop-i-init c = search copying-start
-
-pub loop-i-preserved : goal.loop-i-preserved
-loop-i-preserved c = search copying-next
-
-pub shape_of-out : goal.shape_of-out
-shape_of-out c = c.loop-i.invariant.size
-
 pub returns : goal.returns
-returns c = search copying-end
+unfolding part_of
+returns c = rw (c.copy_from_slice.ensures.after, add-sub_cancel_left)

@@ -4,7 +4,4 @@ use Rattle.fields.proofs.Equal.{Joined}
 use Rattle.fields.proofs.same_range.Given as goal
 
 abbrev pub invariant-loop-i : goal.invariant-loop-i
-invariant-loop-i l = (l.i ≤ l.count) × Joined (λ k. get_or l.s (l.from + k) 0) (λ k. get_or l.t (l.to + k) 0) l.i l.off
-
-abbrev pub decreases-loop-i : goal.decreases-loop-i
-decreases-loop-i l = l.count - l.i
+invariant-loop-i l = Joined (λ k. get_or l.s (l.from + k) 0) (λ k. get_or l.t (l.to + k) 0) l.i l.off

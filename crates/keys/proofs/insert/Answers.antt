@@ -1,20 +1,18 @@
 -- `keys::insert` meets its contract.
-use Prim.Native.Nat.{◌-◌}
-use mathlib.Core.Path.{refl}
 use native.Mathlib.Omega.{arith}
-use Rattle.keys.proofs.Inserting.{inserting-start, inserting-next, inserted-first, inserted-behind}
+use borrow.Author.Rules.{rules}
+use lib.Dec.{ltb}
+use lib.ListN.{take}
+use Rattle.std.proofs.lemmas.List.Sorted.{IsPartitionPoint-from_clause, IsPartitionedBy-ltb, IsNonDecreasingBy-from_default}
+use Rattle.keys.proofs.Inserting.{not-falling, inserted}
 use Rattle.keys.proofs.insert.Goals as goal
 
-pub loop-i-init : goal.loop-i-init
-loop-i-init c = inserting-start _ _ _ (omega arith)
-
-pub returns-then-below-key : goal.returns-then-below-key
-returns-then-below-key c =
-    inserted-behind _ _ _ _ _ c.loop-i.invariant (c.loop-i.i - 1) _ (omega arith) refl (omega arith)
-    c.requires.rising
-
-pub loop-i-preserved : goal.loop-i-preserved
-loop-i-preserved c = inserting-next _ _ _ _ _ c.loop-i.invariant (c.loop-i.i - 1) _ (omega arith) refl (omega arith)
-
 pub returns : goal.returns
-returns c = inserted-first _ _ _ _ _ c.loop-i.invariant (omega arith)
+returns c =
+    let a = c.args in
+    let l = take a.count a.keys.now in
+    let i = c.partition_point-i.result in
+    let p = IsPartitionPoint-from_clause (λ y. ltb y a.key) l i c.partition_point-i.ensures.partitioned
+    (IsPartitionedBy-ltb (λ y. y) l a.key (IsNonDecreasingBy-from_default (λ y. y) l 0 (not-falling l c.requires.rising)))
+    (λ x r f h. search rules) in
+    rw c.copy_within.ensures.after (inserted a.count a.key i a.keys.now (search rules) (omega arith) p)

@@ -7,17 +7,17 @@ use Rattle.listing.proofs.corners_of.Goals as goal
 pub first_entry-e-requires : goal.first_entry-e-requires
 first_entry-e-requires c = search (accepted-long, accepted-entries)
 
-pub loop-k-init : goal.loop-k-init
-loop-k-init c = search boxing-start
+pub loop-init : goal.loop-init
+loop-init c = search boxing-start
 
-pub with_tile-c-requires : goal.with_tile-c-requires
-with_tile-c-requires c = search (at-whole, at-dimensions)
+pub with_tile-corners-requires : goal.with_tile-corners-requires
+with_tile-corners-requires c = search (at-whole, at-dimensions)
 
 pub next_entry-e-requires : goal.next_entry-e-requires
 next_entry-e-requires c = search at-fixed
 
-pub loop-k-preserved : goal.loop-k-preserved
-loop-k-preserved c = search boxing-next
+pub loop-preserved : goal.loop-preserved
+loop-preserved c = search boxing-next
 
 pub returns : goal.returns
 returns c = search boxing-end

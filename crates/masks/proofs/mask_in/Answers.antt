@@ -11,11 +11,11 @@ loop-c-init c = record { within = omega arith; accepted = c.requires.a_value; sa
 pub chunk_at-chunk-requires : goal.chunk_at-chunk-requires
 chunk_at-chunk-requires c = search (sought-head, sought-fields)
 
-pub returns-in-Mask : goal.returns-in-Mask
-returns-in-Mask c = search sought-mask
+pub returns-in-Some : goal.returns-in-Some
+returns-in-Some c = search sought-mask
 
-pub overflow_add-c-in-Other : goal.overflow_add-c-in-Other
-overflow_add-c-in-Other c = let k : c.loop-c.c + 20 + c.chunk_at-chunk.result.length ≤ c.args.end = search sought-within in omega arith
+pub overflow_add-c-in-loop-c : goal.overflow_add-c-in-loop-c
+overflow_add-c-in-loop-c c = let k : c.loop-c.c + 20 + c.chunk_at-chunk.result.length ≤ c.args.end = search sought-within in omega arith
 
 pub loop-c-smaller : goal.loop-c-smaller
 loop-c-smaller c = let k : c.loop-c.c + 20 + c.chunk_at-chunk.result.length ≤ c.args.end = search sought-within in omega arith

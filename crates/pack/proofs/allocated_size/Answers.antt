@@ -1,8 +1,8 @@
 -- `pack::allocated_size` meets its contract.
-use mathlib.Core.Path.{refl}
+use native.Mathlib.Omega.{arith}
 use Rattle.pack.specs.Pack.{allocated}
 use Rattle.pack.proofs.allocated_size.Goals as goal
 
 pub returns : goal.returns
 unfolding allocated
-returns c = refl
+returns c = omega arith

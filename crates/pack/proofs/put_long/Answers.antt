@@ -1,25 +1,7 @@
 -- `pack::put_long` meets its contract.
-use mathlib.Core.Path.{refl, sym, ◌∙◌}
-use native.Mathlib.Nat.{add-zero}
-use native.Mathlib.Omega.{arith}
-use lib.ListN.{length-set}
-use Rattle.pack.proofs.Puts.{bytes-end, bytes_next}
+use mathlib.Core.Path.{◌∙◌}
+use Rattle.pack.proofs.Puts.{long_here}
 use Rattle.pack.proofs.put_long.Goals as goal
 
-pub loop-i-init : goal.loop-i-init
-loop-i-init c = (omega arith, rw (add-zero _), refl)
-
-pub loop-i-preserved : goal.loop-i-preserved
-loop-i-preserved c =
-    let v = c.loop-i in
-    let a = c.args in
-    (omega arith, v.invariant.1 ∙ bytes_next v.out a.p v.i 8 (omega arith) (omega arith) v.rest, length-set v.out _ _ ∙ v.invariant.2)
-
-pub shape_of-out : goal.shape_of-out
-shape_of-out c = c.loop-i.invariant.2
-
 pub returns : goal.returns
-returns c =
-    let v = c.loop-i in
-    let a = c.args in
-    sym (v.invariant.1 ∙ bytes-end v.out a.p v.i 8 (omega arith) v.rest)
+returns c = long_here c.args.out.now _ c.args.p c.args.x (c.copy_from_slice.ensures.after ∙ c.to_le_bytes.ensures)

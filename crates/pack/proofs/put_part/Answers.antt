@@ -1,11 +1,6 @@
 -- `pack::put_part` meets its contract.
-use mathlib.Core.Path.{refl}
-use Prim.Native.Nat.{◌+◌}
-use native.Mathlib.Omega.{arith}
-use Rattle.pack.proofs.Puts.{put-copied}
+use Rattle.pack.proofs.Puts.{part_here}
 use Rattle.pack.proofs.put_part.Goals as goal
 
 pub returns : goal.returns
-returns c =
-    let a = c.args in
-    put-copied a.out.now a.s.now _ a.p (a.p + a.n) a.q (a.q + a.n) a.n refl refl (omega arith) (omega arith) c.copy_range.ensures
+returns c = part_here c.args.out.now c.args.s.now _ c.args.p c.args.q c.args.n c.requires.1 c.copy_from_slice.ensures.after

@@ -1,20 +1,42 @@
 -- `parts::attachment` meets its contract.
-use Rattle.format.proofs.Answering.{attachment-refused}
-use Rattle.parts.proofs.Numbered.{annex-file, annex-below}
+use Prim.Native.Nat.{◌+◌, ◌≤◌}
+use lib.ListN.{length}
+use Rattle.format.specs.Attachments.{attachment_data_size}
+use native.Mathlib.Omega.{arith}
+use Rattle.std.proofs.lemmas.Result.{err_from_is_err_and}
+use Rattle.format.proofs.Answering.{value-refused}
+use Rattle.judge.proofs.AcceptedFile.{accepted-long}
+use Rattle.parts.proofs.Numbered.{annex-file, annex-below, annex-small, annex-in, data-in, annex-is, annex-at}
 use Rattle.parts.proofs.Parts.{annex-found}
 use Rattle.parts.proofs.attachment.Goals as goal
+use Rattle.parts.proofs.attachment.Goals.{After-attachment_position-position}
 
-pub attachment_entry_place-e-requires : goal.attachment_entry_place-e-requires
-attachment_entry_place-e-requires c = search (annex-file, annex-below)
+pub attachment_directory_position-directory-requires : goal.attachment_directory_position-directory-requires
+attachment_directory_position-directory-requires c = search (accepted-long, annex-file, c.in_ok-attachment_refusal.was)
 
-pub attachment_segment-q-requires : goal.attachment_segment-q-requires
-attachment_segment-q-requires c = search (annex-file, annex-below)
+pub attachment_entry-place-requires : goal.attachment_entry-place-requires
+attachment_entry-place-requires c = search (annex-small, annex-file, annex-below, c.in_ok-attachment_refusal.was)
 
-pub data_span-data-requires : goal.data_span-data-requires
-data_span-data-requires c = search (annex-file, annex-below)
+pub attachment_position-position-requires : goal.attachment_position-position-requires
+attachment_position-position-requires c =
+    annex-in c.args.s.now (search (annex-file, c.in_ok-attachment_refusal.was)) c.args.n (search (annex-below, c.in_ok-attachment_refusal.was)) _ (search annex-is)
 
-pub returns-in-Refused : goal.returns-in-Refused
-returns-in-Refused c = search attachment-refused
+-- the data lie in the file
+data_in : (c : After-attachment_position-position)
+    → c.attachment_position-position.result + 288 + attachment_data_size c.args.s.now c.attachment_position-position.result ≤ length c.args.s.now
+data_in c =
+    data-in c.args.s.now (search (annex-file, c.in_ok-attachment_refusal.was)) c.args.n (search (annex-below, c.in_ok-attachment_refusal.was)) _ (search annex-at)
 
-pub returns-in-Accepted : goal.returns-in-Accepted
-returns-in-Accepted c = search annex-found
+pub overflow_add-result : goal.overflow_add-result
+overflow_add-result c = omega (arith, data_in c)
+
+pub attachment_data_size-requires : goal.attachment_data_size-requires
+attachment_data_size-requires c = omega (arith, data_in c)
+
+pub returns-in_err-attachment_refusal : goal.returns-in_err-attachment_refusal
+returns-in_err-attachment_refusal c =
+    let p = err_from_is_err_and c.from_residual.result c.from_residual.ensures.1 in
+    rw (p.1, p.2) (search (value-refused, c.in_err-attachment_refusal.was))
+
+pub returns : goal.returns
+returns c = search (annex-found, annex-is, annex-at, c.in_ok-attachment_refusal.was)

@@ -1,19 +1,16 @@
 -- `parts::attachment_data_span` meets its contract.
-use Rattle.format.specs.Records.{attachment_data}
-use Rattle.format.proofs.Answering.{span-refused, span-found}
-use Rattle.parts.proofs.Numbered.{annex-file, annex-below}
+use Rattle.std.proofs.lemmas.Result.{err_from_is_err_and}
+use Rattle.format.specs.Records.{attachment_data, attachment_record, attachment_at}
+use Rattle.format.specs.declared.Attachment.{Attachment}
+use Rattle.parts.proofs.Parts.{part-found, part-refused}
 use Rattle.parts.proofs.attachment_data_span.Goals as goal
 
-pub attachment_segment-requires : goal.attachment_segment-requires
-attachment_segment-requires c = search (annex-file, annex-below)
+pub returns-in_err-attachment : goal.returns-in_err-attachment
+unfolding attachment_data attachment_record attachment_at
+returns-in_err-attachment c =
+    let p = err_from_is_err_and c.from_residual.result c.from_residual.ensures.1 in
+    rw (p.1, p.2) (part-refused c.attachment.ensures _ c.in_err-attachment.was)
 
-pub data_span-requires : goal.data_span-requires
-data_span-requires c = search (annex-file, annex-below)
-
-pub returns-in-Refused : goal.returns-in-Refused
-unfolding attachment_data
-returns-in-Refused c = search span-refused
-
-pub returns-in-Accepted : goal.returns-in-Accepted
-unfolding attachment_data
-returns-in-Accepted c = span-found c.attachment_refusal-v.ensures c.in-Accepted.is (rw (← c.attachment_segment.ensures) c.data_span.ensures)
+pub returns : goal.returns
+unfolding attachment_data attachment_record attachment_at
+returns c = part-found c.attachment.ensures (λ (x : Attachment). x.data) c.in_ok-attachment.was

@@ -1,4 +1,5 @@
 -- `parts::attachment_refusal` meets its contract.
+use Rattle.std.proofs.lemmas.Result.{err_from_is_err_and}
 use Rattle.format.specs.Rules.{verdict, attachment_verdict}
 use Rattle.format.proofs.Flags.{le_yes, le-no}
 use Rattle.judge.proofs.AcceptedFile.{accepted-file}
@@ -9,16 +10,18 @@ ruleset answers = (refused-before, no_such, is-there, le_yes, le-no)
 
 pub attachment_count-requires : goal.attachment_count-requires
 unfolding verdict attachment_verdict
-attachment_count-requires c = search accepted-file
+attachment_count-requires c = search (accepted-file, c.in_ok-judge.was)
 
 pub returns-then-attachment_count-n : goal.returns-then-attachment_count-n
 unfolding verdict attachment_verdict
-returns-then-attachment_count-n c = search answers
+returns-then-attachment_count-n c = search (answers, c.in_ok-judge.was)
 
-pub returns-in-Refused : goal.returns-in-Refused
+pub returns-in_err-judge : goal.returns-in_err-judge
 unfolding verdict attachment_verdict
-returns-in-Refused c = search answers
+returns-in_err-judge c =
+    let p = err_from_is_err_and c.from_residual.result c.from_residual.ensures.1 in
+    rw (p.1, p.2) (search (answers, c.in_err-judge.was))
 
-pub returns-else-attachment_count-n : goal.returns-else-attachment_count-n
+pub returns : goal.returns
 unfolding verdict attachment_verdict
-returns-else-attachment_count-n c = search answers
+returns c = search (answers, c.in_ok-judge.was)

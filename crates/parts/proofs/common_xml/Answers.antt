@@ -2,8 +2,8 @@
 use Rattle.parts.proofs.Within.{answered-within, answered-view, xml-within}
 use Rattle.parts.proofs.common_xml.Goals as goal
 
-pub part-requires : goal.part-requires
-part-requires c = search (answered-within, xml-within)
+pub view_of-requires : goal.view_of-requires
+view_of-requires c = search (answered-within, xml-within)
 
 pub returns : goal.returns
 returns c = search answered-view

@@ -7,14 +7,14 @@ use Rattle.parts.proofs.entry_place.Goals as goal
 pub first_entry-e-requires : goal.first_entry-e-requires
 first_entry-e-requires c = search (accepted-long, accepted-entries)
 
-pub loop-k-init : goal.loop-k-init
-loop-k-init c = search at-start
+pub loop-init : goal.loop-init
+loop-init c = search at-start
 
 pub next_entry-e-requires : goal.next_entry-e-requires
 next_entry-e-requires c = search (at-fixed, le_of_lt)
 
-pub loop-k-preserved : goal.loop-k-preserved
-loop-k-preserved c = search at_next
+pub loop-preserved : goal.loop-preserved
+loop-preserved c = search at_next
 
 pub returns : goal.returns
 returns c = search at-end

@@ -1,19 +1,16 @@
 -- `parts::tile_attachment_span` meets its contract.
-use Rattle.parts.proofs.Numbered.{tile-file, tile-below, filled_at}
-use Rattle.parts.proofs.Parts.{attachment-found, attachment-refused}
+use Rattle.std.proofs.lemmas.Result.{err_from_is_err_and}
+use Rattle.format.specs.Records.{tile_attachment, tile_record, tile_at}
+use Rattle.format.specs.declared.Tile.{Tile}
+use Rattle.parts.proofs.Parts.{part-found, part-refused}
 use Rattle.parts.proofs.tile_attachment_span.Goals as goal
 
-pub entry_place-e-requires : goal.entry_place-e-requires
-entry_place-e-requires c = search (tile-file, tile-below)
+pub returns-in_err-tile : goal.returns-in_err-tile
+unfolding tile_attachment tile_record tile_at
+returns-in_err-tile c =
+    let p = err_from_is_err_and c.from_residual.result c.from_residual.ensures.1 in
+    rw (p.1, p.2) (part-refused c.tile.ensures _ c.in_err-tile.was)
 
-pub sub_block_place-q-requires : goal.sub_block_place-q-requires
-sub_block_place-q-requires c = search (tile-file, tile-below)
-
-pub attachment_span-requires : goal.attachment_span-requires
-attachment_span-requires c = search filled_at
-
-pub returns-in-Refused : goal.returns-in-Refused
-returns-in-Refused c = search attachment-refused
-
-pub returns-in-Accepted : goal.returns-in-Accepted
-returns-in-Accepted c = search attachment-found
+pub returns : goal.returns
+unfolding tile_attachment tile_record tile_at
+returns c = part-found c.tile.ensures (λ (x : Tile). x.attachment) c.in_ok-tile.was

@@ -23,12 +23,12 @@ pub xml_span-xml-requires : goal.xml_span-xml-requires
 unfolding xml_attachment_span
 xml_span-xml-requires c = search rules
 
-pub overflow_add-start : goal.overflow_add-start
-overflow_add-start c = omega (arith, behind-in _ _ c.metadata_position-m.ensures c.if-m-eq0.false _ c.xml_span-xml.ensures c.requires)
+pub overflow_add-result : goal.overflow_add-result
+overflow_add-result c = omega (arith, behind-in _ _ c.metadata_position-m.ensures c.if-m-eq0.false _ c.xml_span-xml.ensures c.requires)
 
-pub xml_attachment_size-length-requires : goal.xml_attachment_size-length-requires
+pub xml_attachment_size-requires : goal.xml_attachment_size-requires
 unfolding xml_attachment_span
-xml_attachment_size-length-requires c = omega (arith, xml-in _ c.requires _ c.metadata_position-m.ensures c.if-m-eq0.false)
+xml_attachment_size-requires c = omega (arith, xml-in _ c.requires _ c.metadata_position-m.ensures c.if-m-eq0.false)
 
 pub returns : goal.returns
 unfolding xml_attachment_span

@@ -14,12 +14,12 @@ pub returns-then-m-eq0 : goal.returns-then-m-eq0
 unfolding xml_span
 returns-then-m-eq0 c = search flags depth 8
 
-pub overflow_add-start : goal.overflow_add-start
-overflow_add-start c = omega (arith, xml-in _ c.requires _ c.metadata_position-m.ensures c.if-m-eq0.false)
+pub overflow_add-result : goal.overflow_add-result
+overflow_add-result c = omega (arith, xml-in _ c.requires _ c.metadata_position-m.ensures c.if-m-eq0.false)
 
-pub xml_size-length-requires : goal.xml_size-length-requires
-xml_size-length-requires c = omega (arith, xml-in _ c.requires _ c.metadata_position-m.ensures c.if-m-eq0.false)
+pub xml_size-requires : goal.xml_size-requires
+xml_size-requires c = omega (arith, xml-in _ c.requires _ c.metadata_position-m.ensures c.if-m-eq0.false)
 
 pub returns : goal.returns
 unfolding xml_span
-returns c = rw (← c.metadata_position-m.ensures, ne_eqb _ _ c.if-m-eq0.false, ← c.xml_size-length.ensures.0)
+returns c = rw (← c.metadata_position-m.ensures, ne_eqb _ _ c.if-m-eq0.false, ← c.xml_size.ensures.0)

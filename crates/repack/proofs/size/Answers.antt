@@ -1,19 +1,11 @@
 -- `repack::size` meets its contract.
-use Rattle.judge.proofs.AcceptedFile.{accepted-file}
-use Rattle.repack.proofs.Answering.{size-refused, size-large, size-done}
+use Rattle.std.proofs.lemmas.Result.{err_from_is_err_and}
+use Rattle.repack.proofs.Answering.{size-refused, size-done}
 use Rattle.repack.proofs.size.Goals as goal
 
-pub new_places-p-requires : goal.new_places-p-requires
-new_places-p-requires c = search accepted-file
+pub returns-in_err-places : goal.returns-in_err-places
+returns-in_err-places c =
+    let p = err_from_is_err_and c.from_residual.result c.from_residual.ensures.1 in rw (p.1, p.2) (search (size-refused, c.in_err-places.ensures))
 
-pub too_large-requires : goal.too_large-requires
-too_large-requires c = search accepted-file
-
-pub returns-then-too_large : goal.returns-then-too_large
-returns-then-too_large c = search size-large
-
-pub returns-in-Refused : goal.returns-in-Refused
-returns-in-Refused c = search size-refused
-
-pub returns-else-too_large : goal.returns-else-too_large
-returns-else-too_large c = search size-done
+pub returns : goal.returns
+returns c = search (size-done, c.in_ok-places.ensures)

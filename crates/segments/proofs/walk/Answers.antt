@@ -5,16 +5,11 @@ use Rattle.format.specs.Segments.{segments_rows, walked}
 use Rattle.format.proofs.SegmentLaws.{length-ok}
 use Rattle.segments.proofs.walk.Goals as goal
 
-pub length_bad-requires : goal.length_bad-requires
-unfolding segments_rows walked
-length_bad-requires c = search rules
-
 pub returns-then-length_bad : goal.returns-then-length_bad
 unfolding segments_rows walked
-returns-then-length_bad c = rw (sym c.length_bad.ensures ∙ c.if-length_bad.true) (record { verdict-is = refl; count-is = refl; table_is = refl })
+returns-then-length_bad c = rw (sym c.length_bad.ensures ∙ c.if-length_bad.true) (record { answer_is = refl; table_is = refl })
 
 pub walk_segments-requires : goal.walk_segments-requires
-unfolding segments_rows walked
 walk_segments-requires c = record { s_len = (length-ok _ (sym c.length_bad.ensures ∙ c.if-length_bad.false)).whole; table_len = search rules }
 
 pub returns : goal.returns

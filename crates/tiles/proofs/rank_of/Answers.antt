@@ -18,6 +18,6 @@ returns-then-holds_letter c = (
   omega (arith, c.biased_start.ensures.1, c.requires.1),
 )
 
-pub returns : goal.returns
+pub returns-else-holds_letter : goal.returns-else-holds_letter
 unfolding rank_of
-returns c = (rw (is_false _ _ c.holds_letter.ensures c.if-holds_letter.false), search rules)
+returns-else-holds_letter c = (rw (is_false _ _ c.holds_letter.ensures c.if-holds_letter.false), search rules)

@@ -1,15 +1,8 @@
 -- `czi::quotes::czi_quote` meets its contract.
-use Rattle.czi.proofs.Low.{quote-low}
-use Rattle.czi.proofs.Out.{quote-out}
+use Rattle.czi.proofs.Out.{quote-said, quote-out}
 use Rattle.czi.proofs.quotes.czi_quote.Goals as goal
-
-pub quoted_number-requires : goal.quoted_number-requires
-quoted_number-requires c = search quote-low
 
 pub returns : goal.returns
 returns c =
-    let k = c in
-    let a = k in
-    let b = a in
-    quote-out k.quote_of-q.ensures b.ranges.left.sfits b.ranges.top.sfits
-    c.quoted_number.ensures c.quoted_place.ensures c.quoted_covered.ensures c.quoted_length.ensures
+    quote-out (quote-said c.quote-answer.ensures c.release_of-by.ensures c.request_of-f.ensures c.ranges.left.sfits c.ranges.top.sfits)
+    c.number_in.ensures c.place_in.ensures c.unwrap_or-figures.ensures

@@ -1,12 +1,9 @@
 -- `markup::items::begins_name` meets its contract.
-use Rattle.markup.proofs.Naming.{name-none, name-wrong, name-right}
+use Rattle.markup.proofs.Naming.{named, unnamed}
 use Rattle.markup.proofs.items.begins_name.Goals as goal
 
-pub returns-then-at-stop : goal.returns-then-at-stop
-returns-then-at-stop c = search name-none
+pub returns-then-not-is_empty : goal.returns-then-not-is_empty
+returns-then-not-is_empty c = named _ _ c.is_empty.ensures c.if-not-is_empty.true
 
-pub returns-then-byte_at-eq33 : goal.returns-then-byte_at-eq33
-returns-then-byte_at-eq33 c = search name-wrong
-
-pub returns : goal.returns
-returns c = search name-right
+pub returns-else-not-is_empty : goal.returns-else-not-is_empty
+returns-else-not-is_empty c = unnamed _ _ c.is_empty.ensures c.if-not-is_empty.false

@@ -1,15 +1,25 @@
 -- `markup::items::end_tag` meets its contract.
-use Rattle.markup.proofs.Naming.{end-unnamed, end-cut, end-other, end-found}
+use Rattle.format.specs.Markup.{white, name_byte}
+use Rattle.markup.proofs.Splitting.{split-by}
+use Rattle.markup.proofs.Tags.{end-unnamed, end-other, end-found}
 use Rattle.markup.proofs.items.end_tag.Goals as goal
 
 pub returns-then-not-begins_name : goal.returns-then-not-begins_name
-returns-then-not-begins_name c = search end-unnamed
+returns-then-not-begins_name c =
+    let s = c.split.ensures in
+    end-unnamed _ _ _ (split-by name_byte _ _ _ s.parts s.before s.stop) c.if-not-begins_name.ensures
 
-pub returns-then-mark-end : goal.returns-then-mark-end
-returns-then-mark-end c = search end-cut
-
-pub returns-then-byte_at-ne62 : goal.returns-then-byte_at-ne62
-returns-then-byte_at-ne62 c = search end-other
+pub returns-in_err-rest : goal.returns-in_err-rest
+returns-in_err-rest c =
+    let s = c.split.ensures in
+    let w = c.split-2.ensures in
+    rw c.from_residual.ensures
+    (end-other _ _ _ (split-by name_byte _ _ _ s.parts s.before s.stop) c.if-not-begins_name.ensures _ _
+    (split-by white _ _ _ w.parts w.before w.stop) c.in_err-rest.ensures.cases)
 
 pub returns : goal.returns
-returns c = search end-found
+returns c =
+    let s = c.split.ensures in
+    let w = c.split-2.ensures in
+    end-found _ _ _ (split-by name_byte _ _ _ s.parts s.before s.stop) c.if-not-begins_name.ensures _ _
+    (split-by white _ _ _ w.parts w.before w.stop) c.in_ok-rest.ensures.cases.0 _ c.in_ok-rest.ensures.cases.1

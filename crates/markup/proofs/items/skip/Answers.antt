@@ -1,12 +1,12 @@
 -- `markup::items::skip` meets its contract.
-use Rattle.markup.proofs.Skipping.{skip-short, skip-none, skip-found}
+use Rattle.std.proofs.Math.Option.{Option-elim}
+use Rattle.markup.specs.Items.{skipped_behind}
 use Rattle.markup.proofs.items.skip.Goals as goal
 
-pub returns-then-end-at : goal.returns-then-end-at
-returns-then-end-at c = search skip-short
-
-pub returns-then-i-count : goal.returns-then-i-count
-returns-then-i-count c = search skip-none
+pub returns-in_err-rest : goal.returns-in_err-rest
+unfolding skipped_behind Option-elim
+returns-in_err-rest c = rw (c.from_residual.ensures, ← c.in_err-rest.ensures)
 
 pub returns : goal.returns
-returns c = search skip-found
+unfolding skipped_behind Option-elim
+returns c = rw (← c.in_ok-rest.ensures)

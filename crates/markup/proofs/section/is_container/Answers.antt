@@ -1,117 +1,58 @@
 -- `markup::section::is_container` meets its contract.
-use native.Mathlib.Omega.{arith}
-use Rattle.markup.proofs.Walking.{walking_start, told, broken, too_many, lie-start, walking-opened, none_open, names-lie, other_name}
-use Rattle.markup.proofs.Walking.{walking-closed, walking-empty, walking-text, text-lies, walking-skipped, still_open, all_closed}
+use Rattle.std.proofs.Common.{ap, ◌||◌}
+use Rattle.markup.proofs.Walking.{walk-start, broken, less, too_many, walk-opened, none_open, other_name, walk-closed, walk-text, walk-other, still_open, all_closed}
+use Rattle.markup.proofs.Sections.{was-said}
 use Rattle.markup.proofs.section.is_container.Goals as goal
 
-pub loop-at-init : goal.loop-at-init
-loop-at-init c = search walking_start
+pub loop-rest-init : goal.loop-rest-init
+loop-rest-init c = rw c.new-tags.ensures (walk-start _ _ _ _ c.part-rest.ensures.bytes)
 
-pub returns-in-Broken : goal.returns-in-Broken
-returns-in-Broken c = broken (told c.loop-at.invariant c.loop-at-test.true c.item_at-token.ensures c.in-Broken.is)
+pub returns-in_default : goal.returns-in_default
+returns-in_default c = broken _ _ _ _ _ c.loop-rest.invariant c.loop-rest-test.ensures c.in_default.ensures
 
-pub returns-then-depth-eq64 : goal.returns-then-depth-eq64
-returns-then-depth-eq64 c =
-    too_many (told c.loop-at.invariant c.loop-at-test.true c.item_at-token.ensures c.in-Start.is) c.if-depth-eq64.true
+pub returns-then-is_full : goal.returns-then-is_full
+returns-then-is_full c =
+    too_many _ _ _ _ _ c.loop-rest.invariant _ _ c.loop-rest-test.ensures c.in-Some.ensures _ c.in-Start.is c.if-is_full.ensures.value
 
-pub offset_bounds-places-depth : goal.offset_bounds-places-depth
-offset_bounds-places-depth c = omega (arith, c.loop-at.invariant.lie.few)
+pub loop-rest-smaller-in-Start : goal.loop-rest-smaller-in-Start
+loop-rest-smaller-in-Start c = less _ _ _ _ _ c.loop-rest.invariant _ _ c.loop-rest-test.ensures c.in-Some.ensures
 
-pub bounds-places-depth : goal.bounds-places-depth
-bounds-places-depth c = omega (arith, c.loop-at.invariant.lie.few)
+pub loop-rest-preserved-in-Start : goal.loop-rest-preserved-in-Start
+loop-rest-preserved-in-Start c =
+    walk-opened _ _ _ _ _ c.loop-rest.invariant _ _ c.loop-rest-test.ensures c.in-Some.ensures _ c.in-Start.is c.if-is_full.ensures.value c.is_full.ensures.few _ c.push.ensures _
+    c.start_stage-stage.ensures
 
-pub offset_bounds-lengths-depth : goal.offset_bounds-lengths-depth
-offset_bounds-lengths-depth c = omega (arith, c.loop-at.invariant.lie.few)
+pub returns-in_default-pop : goal.returns-in_default-pop
+returns-in_default-pop c =
+    none_open _ _ _ _ _ c.loop-rest.invariant _ _ c.loop-rest-test.ensures c.in-Some.ensures _ c.in-Close.is c.in_default-pop.ensures.0
 
-pub bounds-lengths-depth : goal.bounds-lengths-depth
-bounds-lengths-depth c = omega (arith, c.loop-at.invariant.lie.few)
+pub returns-then-ne : goal.returns-then-ne
+returns-then-ne c =
+    other_name _ _ _ _ _ c.loop-rest.invariant _ _ c.loop-rest-test.ensures c.in-Some.ensures _ _ _ c.in-Close.is c.in-Some-pop.ensures c.if-ne.ensures
 
-pub overflow_add-depth : goal.overflow_add-depth
-overflow_add-depth c = omega (arith, c.loop-at.invariant.lie.few)
+pub loop-rest-smaller-in-Close : goal.loop-rest-smaller-in-Close
+loop-rest-smaller-in-Close c = less _ _ _ _ _ c.loop-rest.invariant _ _ c.loop-rest-test.ensures c.in-Some.ensures
 
-pub start_stage-stage-requires : goal.start_stage-stage-requires
-start_stage-stage-requires c =
-    lie-start (told c.loop-at.invariant c.loop-at-test.true c.item_at-token.ensures c.in-Start.is) c.if-depth-eq64.false
+pub loop-rest-preserved-in-Close : goal.loop-rest-preserved-in-Close
+loop-rest-preserved-in-Close c =
+    walk-closed _ _ _ _ _ c.loop-rest.invariant _ _ c.loop-rest-test.ensures c.in-Some.ensures _ _ _ c.in-Close.is c.in-Some-pop.ensures c.if-ne.ensures _
+    (ap (λ r. c.loop-rest.found || r) (was-said _ _ c.eq-found.ensures))
 
-pub loop-at-smaller-in-Start : goal.loop-at-smaller-in-Start
-loop-at-smaller-in-Start c =
-    let r = told c.loop-at.invariant c.loop-at-test.true c.item_at-token.ensures c.in-Start.is in
-    omega (arith, r.stands.ahead.1)
+pub loop-rest-smaller-in-Text : goal.loop-rest-smaller-in-Text
+loop-rest-smaller-in-Text c = less _ _ _ _ _ c.loop-rest.invariant _ _ c.loop-rest-test.ensures c.in-Some.ensures
 
-pub loop-at-preserved-in-Start : goal.loop-at-preserved-in-Start
-loop-at-preserved-in-Start c =
-    let r = told c.loop-at.invariant c.loop-at-test.true c.item_at-token.ensures c.in-Start.is in
-    walking-opened r c.if-depth-eq64.false c.start_stage-stage.ensures
+pub loop-rest-preserved-in-Text : goal.loop-rest-preserved-in-Text
+loop-rest-preserved-in-Text c =
+    walk-text _ _ _ _ _ c.loop-rest.invariant _ _ c.loop-rest-test.ensures c.in-Some.ensures _ c.in-Text.is _ c.text_stage-stage.ensures
 
-pub returns-then-depth-eq0 : goal.returns-then-depth-eq0
-returns-then-depth-eq0 c =
-    none_open (told c.loop-at.invariant c.loop-at-test.true c.item_at-token.ensures c.in-Close.is) c.if-depth-eq0.true
+pub loop-rest-smaller : goal.loop-rest-smaller
+loop-rest-smaller c = less _ _ _ _ _ c.loop-rest.invariant _ _ c.loop-rest-test.ensures c.in-Some.ensures
 
-pub overflow_sub-depth : goal.overflow_sub-depth
-overflow_sub-depth c = omega arith
+pub loop-rest-preserved : goal.loop-rest-preserved
+loop-rest-preserved c = walk-other _ _ _ _ _ c.loop-rest.invariant _ _ c.loop-rest-test.ensures c.in-Some.ensures c.in-Empty.is
 
-pub offset_bounds-places-depth-in-Close : goal.offset_bounds-places-depth-in-Close
-offset_bounds-places-depth-in-Close c = omega (arith, c.loop-at.invariant.lie.few)
+pub returns-then-is_empty : goal.returns-then-is_empty
+returns-then-is_empty c = all_closed _ _ _ _ _ c.loop-rest.invariant c.loop-rest-test.ensures c.if-is_empty.ensures
 
-pub bounds-places-depth-in-Close : goal.bounds-places-depth-in-Close
-bounds-places-depth-in-Close c = omega (arith, c.loop-at.invariant.lie.few)
-
-pub offset_bounds-lengths-depth-in-Close : goal.offset_bounds-lengths-depth-in-Close
-offset_bounds-lengths-depth-in-Close c = omega (arith, c.loop-at.invariant.lie.few)
-
-pub bounds-lengths-depth-in-Close : goal.bounds-lengths-depth-in-Close
-bounds-lengths-depth-in-Close c = omega (arith, c.loop-at.invariant.lie.few)
-
-pub same_names-requires : goal.same_names-requires
-same_names-requires c =
-    names-lie (told c.loop-at.invariant c.loop-at-test.true c.item_at-token.ensures c.in-Close.is) c.if-depth-eq0.false
-
-pub returns-then-not-same_names : goal.returns-then-not-same_names
-returns-then-not-same_names c =
-    let r = told c.loop-at.invariant c.loop-at-test.true c.item_at-token.ensures c.in-Close.is in
-    other_name r c.if-depth-eq0.false c.same_names.ensures (rw c.if-not-same_names.true)
-
-pub loop-at-smaller-in-Close : goal.loop-at-smaller-in-Close
-loop-at-smaller-in-Close c =
-    let r = told c.loop-at.invariant c.loop-at-test.true c.item_at-token.ensures c.in-Close.is in
-    omega (arith, r.stands.ahead.1)
-
-pub loop-at-preserved-in-Close : goal.loop-at-preserved-in-Close
-loop-at-preserved-in-Close c =
-    let r = told c.loop-at.invariant c.loop-at-test.true c.item_at-token.ensures c.in-Close.is in
-    walking-closed r c.if-depth-eq0.false c.same_names.ensures (rw c.if-not-same_names.false) c.found_after-found.ensures
-
-pub loop-at-smaller-in-Empty : goal.loop-at-smaller-in-Empty
-loop-at-smaller-in-Empty c =
-    let r = told c.loop-at.invariant c.loop-at-test.true c.item_at-token.ensures c.in-Empty.is in
-    omega (arith, r.stands.ahead.0)
-
-pub loop-at-preserved-in-Empty : goal.loop-at-preserved-in-Empty
-loop-at-preserved-in-Empty c = walking-empty (told c.loop-at.invariant c.loop-at-test.true c.item_at-token.ensures c.in-Empty.is)
-
-pub text_stage-stage-requires : goal.text_stage-stage-requires
-text_stage-stage-requires c = text-lies (told c.loop-at.invariant c.loop-at-test.true c.item_at-token.ensures c.in-Text.is)
-
-pub loop-at-smaller-in-Text : goal.loop-at-smaller-in-Text
-loop-at-smaller-in-Text c =
-    let r = told c.loop-at.invariant c.loop-at-test.true c.item_at-token.ensures c.in-Text.is in
-    omega (arith, r.stands.ahead.1)
-
-pub loop-at-preserved-in-Text : goal.loop-at-preserved-in-Text
-loop-at-preserved-in-Text c =
-    let r = told c.loop-at.invariant c.loop-at-test.true c.item_at-token.ensures c.in-Text.is in
-    walking-text r c.text_stage-stage.ensures
-
-pub loop-at-smaller : goal.loop-at-smaller
-loop-at-smaller c =
-    let r = told c.loop-at.invariant c.loop-at-test.true c.item_at-token.ensures c.in-Skipped.is in
-    omega (arith, r.stands.ahead.0)
-
-pub loop-at-preserved : goal.loop-at-preserved
-loop-at-preserved c = walking-skipped (told c.loop-at.invariant c.loop-at-test.true c.item_at-token.ensures c.in-Skipped.is)
-
-pub returns-then-depth-ne0 : goal.returns-then-depth-ne0
-returns-then-depth-ne0 c = search still_open
-
-pub returns : goal.returns
-returns c = search all_closed
+pub returns-else-is_empty : goal.returns-else-is_empty
+returns-else-is_empty c = still_open _ _ _ _ _ c.loop-rest.invariant c.loop-rest-test.ensures _ c.is_empty-2.ensures c.if-is_empty.false

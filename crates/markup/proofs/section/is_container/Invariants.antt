@@ -1,9 +1,11 @@
-use Prim.Native.Nat.{◌-◌}
-use Rattle.markup.proofs.Walking.{Walking}
+use Rattle.std.proofs.Common.{◌≡◌, length}
+use Rattle.format.specs.Container.{is_container}
+use Rattle.markup.specs.Stages.{number}
+use Rattle.markup.proofs.Walking.{decides}
 use Rattle.markup.proofs.section.is_container.Given as goal
 
-abbrev pub invariant-loop-at : goal.invariant-loop-at
-invariant-loop-at l = Walking l.s l.p l.n l.end l.places l.lengths l.depth l.stage l.found l.at
+abbrev pub invariant-loop-rest : goal.invariant-loop-rest
+invariant-loop-rest l = is_container l.s l.p l.n ≡ decides l.found (number l.stage) l.tags l.rest
 
-abbrev pub decreases-loop-at : goal.decreases-loop-at
-decreases-loop-at l = l.end - l.at
+abbrev pub decreases-loop-rest : goal.decreases-loop-rest
+decreases-loop-rest l = length l.rest

@@ -15,5 +15,5 @@ attachment_directory_size-requires c = search attachments-most
 pub segment_size-requires : goal.segment_size-requires
 segment_size-requires c = search attachment-directory-small
 
-pub returns : goal.returns
-returns c = search attachment-directory-room
+pub returns-else-t-eq0 : goal.returns-else-t-eq0
+returns-else-t-eq0 c = search attachment-directory-room

@@ -1,10 +1,6 @@
-use Prim.Native.Nat.{◌-◌}
 use Rattle.repacked.specs.NewFile.{new_block}
 use Rattle.repack.proofs.Sums.{Adding}
 use Rattle.repack.proofs.sizes.blocks_end.Given as goal
 
 abbrev pub invariant-loop-k : goal.invariant-loop-k
-invariant-loop-k l = Adding l.s (new_block l.s) l.n l.e l.at l.k
-
-abbrev pub decreases-loop-k : goal.decreases-loop-k
-decreases-loop-k l = l.n - l.k
+invariant-loop-k l = Adding l.s (new_block l.s) l.n l.e l.at l._k

@@ -5,5 +5,5 @@ use Rattle.repack.proofs.sizes.if_named.Goals as goal
 pub returns-then-position-eq0 : goal.returns-then-position-eq0
 returns-then-position-eq0 c = search named_none
 
-pub returns : goal.returns
-returns c = search named_some
+pub returns-else-position-eq0 : goal.returns-else-position-eq0
+returns-else-position-eq0 c = search named_some

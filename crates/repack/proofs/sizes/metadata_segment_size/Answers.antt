@@ -12,5 +12,5 @@ returns-then-m-eq0 c = search metadata-none
 pub segment_size-requires : goal.segment_size-requires
 segment_size-requires c = search metadata-small
 
-pub returns : goal.returns
-returns c = search metadata-room
+pub returns-else-m-eq0 : goal.returns-else-m-eq0
+returns-else-m-eq0 c = search metadata-room

@@ -27,7 +27,7 @@ overflow_add-position c = search attachments-fit
 
 pub loop-k-preserved : goal.loop-k-preserved
 loop-k-preserved c =
-    entries_next _ _ _ _ c.requires.accepted_file.0 _ c.requires.accepted_file.1 c.requires.accepted_file.2 _ _ _ c.loop-k.invariant (omega arith) _ c.attachment_entry-e.ensures c.requires.n_in_bounds _ c.put_attachment_entry.ensures
+    entries_next _ _ _ _ c.requires.repack_room.accepted _ c.requires.in_bounds.0 c.requires.repack_room.places.attachments _ _ _ c.loop-k.invariant (omega arith) _ c.attachment_entry-e.ensures c.requires.in_bounds.1 _ c.put_attachment_entry.ensures
     _ _ _ c.attachment_position-q.ensures c.attachment_content_size.ensures c.segment_size-position.ensures
 
 pub shape_of-out : goal.shape_of-out

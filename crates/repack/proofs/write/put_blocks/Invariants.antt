@@ -1,9 +1,5 @@
-use Prim.Native.Nat.{◌-◌}
 use Rattle.repack.proofs.TileLoops.{BlocksPut}
 use Rattle.repack.proofs.write.put_blocks.Given as goal
 
 abbrev pub invariant-loop-k : goal.invariant-loop-k
-invariant-loop-k l = BlocksPut l.s l.initial.out l.p l.n l.out l.e l.at l.k
-
-abbrev pub decreases-loop-k : goal.decreases-loop-k
-decreases-loop-k l = l.n - l.k
+invariant-loop-k l = BlocksPut l.s l.initial.out l.fn.places.block l.fn.places.tiles l.out l.e l.at l._k

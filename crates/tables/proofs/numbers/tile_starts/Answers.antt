@@ -10,7 +10,8 @@ returns c =
     rw (
       read_back c.args.t.x.start (omega arith),
       read_back c.args.t.y.start (omega arith),
-      read_back c.m_index_numbers-index.result.start (omega arith),
-      read_back c.args.t.layers.start (omega arith),
-      c.m_index_numbers-index.ensures,
+      read_back c.unwrap_or-m.result c.unwrap_or-m.type_inv,
+      read_back c.unwrap_or-layers.result.start (omega arith),
+      c.unwrap_or-m.ensures,
+      c.unwrap_or-layers.ensures,
     )

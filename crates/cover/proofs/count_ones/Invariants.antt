@@ -1,0 +1,7 @@
+use mathlib.Core.Path.{◌≡◌}
+use Prim.Native.Nat.{◌*◌}
+use Rattle.plane.specs.Paint.{ones}
+use Rattle.cover.proofs.count_ones.Given as goal
+
+abbrev pub invariant-loop-k : goal.invariant-loop-k
+invariant-loop-k l = l.sum ≡ ones (8 * l.k) l.map

@@ -1,5 +1,0 @@
--- `czi::figures::summary_verdict` meets its contract.
-use Rattle.czi.proofs.figures.summary_verdict.Goals as goal
-
-pub returns-in-Refused : goal.returns-in-Refused
-returns-in-Refused c = rw c.in-Refused.is

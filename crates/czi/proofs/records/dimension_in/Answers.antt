@@ -1,5 +1,0 @@
--- `czi::records::dimension_in` meets its contract.
-use Rattle.czi.proofs.records.dimension_in.Goals as goal
-
-pub returns-in-Refused : goal.returns-in-Refused
-returns-in-Refused c = rw c.in-Refused.is

@@ -1,9 +1,0 @@
--- `judge::judge_named` meets its contract.
-use Rattle.directory.proofs.Stages.{then-stop, then_next}
-use Rattle.judge.proofs.judge_named.Goals as goal
-
-pub returns-in-Refused : goal.returns-in-Refused
-returns-in-Refused c = search then-stop
-
-pub returns-in-Accepted : goal.returns-in-Accepted
-returns-in-Accepted c = search then_next

@@ -1,0 +1,46 @@
+-- Tags, from behind their openers on.
+use Rattle.std.proofs.Common.{◌≡◌, refl, sym, ◌∙◌, ℕ, Bool, true, false, cond, List, [], ◌∷◌, take, drop, nat_eq}
+use mathlib.Core.Bool.{and-true}
+use Rattle.std.proofs.Math.Option as Math
+use Rattle.std.proofs.Math.Option.{Option-elim}
+use Rattle.std.specs.Cmp.Lexicographic.{pointwise}
+use Rattle.format.specs.Markup.{Item, start, close, empty, white, name_byte, front, behind, begins_name, behind_tag, closed, tag_at, end_tag_at}
+
+closed-none : (name rest : List ℕ) → pointwise nat_eq (take 1 rest) (62 ∷ []) ≡ false → closed name rest ≡ Math.none
+unfolding closed
+closed-none name [] h = refl
+closed-none name (b ∷ rest) h = rw (sym (and-true (nat_eq b 62)) ∙ h)
+
+closed-some : (name rest : List ℕ) → pointwise nat_eq (take 1 rest) (62 ∷ []) ≡ true → closed name rest ≡ Math.some (close name, drop 1 rest)
+unfolding closed
+closed-some name [] h = cc
+closed-some name (b ∷ rest) h = rw (sym (and-true (nat_eq b 62)) ∙ h)
+
+module _ (bs name rest : List ℕ) (p : (name ≡ front name_byte bs) × (rest ≡ behind name_byte bs)) where
+  pub tag-unnamed : false ≡ begins_name name → Math.none ≡ tag_at bs
+  unfolding tag_at
+  tag-unnamed h = rw (← p.0, ← h)
+
+  pub end-unnamed : false ≡ begins_name name → Math.none ≡ end_tag_at bs
+  unfolding end_tag_at
+  end-unnamed h = rw (← p.0, ← h)
+
+  module _ (h : true ≡ begins_name name) where
+    pub tag-cut : Math.none ≡ behind_tag 0 0 rest → Math.none ≡ tag_at bs
+    unfolding tag_at Option-elim
+    tag-cut e = rw (← p.0, ← p.1, ← h, ← e)
+
+    pub tag-found : (is_empty : Bool) (after : List ℕ) → Math.some (is_empty, after) ≡ behind_tag 0 0 rest
+        → (item : Item) → item ≡ cond is_empty empty (start name) → Math.some (item, after) ≡ tag_at bs
+    unfolding tag_at Option-elim
+    tag-found is_empty after e item i = rw (← p.0, ← p.1, ← h, ← e, i)
+
+    module _ (space after : List ℕ) (q : (space ≡ front white rest) × (after ≡ behind white rest)) where
+      pub end-other : pointwise nat_eq (take 1 after) (62 ∷ []) ≡ false → Math.none ≡ end_tag_at bs
+      unfolding end_tag_at
+      end-other e = rw (← p.0, ← p.1, ← h, ← q.1) (sym (closed-none name after e))
+
+      pub end-found : pointwise nat_eq (take 1 after) (62 ∷ []) ≡ true → (left : List ℕ) → left ≡ drop 1 after
+          → Math.some (close name, left) ≡ end_tag_at bs
+      unfolding end_tag_at
+      end-found e left l = rw (← p.0, ← p.1, ← h, ← q.1, l) (sym (closed-some name after e))

@@ -1,9 +1,0 @@
-use Prim.Native.Nat.{◌-◌}
-use Rattle.paint.proofs.Along.{Along}
-use Rattle.paint.proofs.paint_masked.Given as goal
-
-abbrev pub invariant-loop-k : goal.invariant-loop-k
-invariant-loop-k l = Along l.initial.dst l.initial.map l.src l.line l.row l.i l.end l.k l.dst l.map l.given
-
-abbrev pub decreases-loop-k : goal.decreases-loop-k
-decreases-loop-k l = l.end - l.k

@@ -1,9 +1,0 @@
--- `paint::paint_pixel` meets its contract.
-use Rattle.paint.proofs.Steps.{lent-bytes, pixel-left, pixel-given}
-use Rattle.paint.proofs.paint_pixel.Goals as goal
-
-pub returns-then-is_given : goal.returns-then-is_given
-returns-then-is_given c = search pixel-given
-
-pub returns : goal.returns
-returns c = search (pixel-left, lent-bytes)

@@ -1,0 +1,2 @@
+-- Stretches that lie in a file.
+pub mod Within
