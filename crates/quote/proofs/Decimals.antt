@@ -64,4 +64,4 @@ some-digit n x = by_bool (ltb x 10) (λ e. rw e (omega arith)) (λ e. rw e (simp
 
 pub plain-decimal : PlainDecimal
 unfolding decimal
-plain-decimal n h = (digits-alone 20 n, number_is 20 n h, some-digit 19 n, λ k p less. decimal-short k n (omega arith) less h)
+plain-decimal n h = (digits-alone 20 n, number_is 20 n h, some-digit 19 n, λ k p less. decimal-short k n (omega arith) less)

@@ -1,25 +1,14 @@
 -- The sheet of a quote: its area fits 64 bits, its two lines 49 bytes, and a lent sheet keeps its length. Assumes nothing.
-use Prim.Native.Nat.{ℕ, zero, suc, ◌+◌, ◌*◌, ◌/◌, ◌^◌, ◌≤◌, ◌<◌}
+use Prim.Native.Nat.{ℕ, ◌+◌, ◌*◌, ◌^◌, ◌≤◌, ◌<◌}
 use mathlib.Core.Path.{◌≡◌}
 use mathlib.Core.List.{List, ◌++◌, append_assoc}
 use native.Mathlib.Nat.{mul-le-mul, add-mul}
 use native.Mathlib.Omega.{arith}
 use lib.ListN.{length, drop, length-append, length-drop}
-use lib.Dec.{ltb}
-use Rattle.text.specs.Text.{digits, decimal, line}
-use Rattle.text.proofs.Digits.{decimal-short}
-use Rattle.format.proofs.Below.{by_bool}
+use Rattle.text.specs.Text.{decimal, line}
+use Rattle.text.proofs.Digits.{decimal-most, decimal-short}
 use Rattle.settings.specs.declared.Settings.{Settings}
 use Rattle.quote.specs.Quote.{name_covered, name_area, area_of, sheet_text, overlaid}
-
-digits-most : (n x : ℕ) → length (digits n x) ≤ n
-unfolding digits
-digits-most zero x = omega arith
-digits-most (suc n) x = by_bool (ltb x 10) (λ e. rw e (omega arith)) (λ e. rw e (simp length-append (omega (arith, digits-most n (x / 10)))))
-
-decimal-most : (x : ℕ) → length (decimal x) ≤ 20
-unfolding decimal
-decimal-most x = digits-most 20 x
 
 module _ (s : Settings) where
   -- ---- the area
@@ -41,7 +30,7 @@ module _ (s : Settings) where
   pub text-most : (covered : ℕ) → covered ≤ 4294967296 → length (sheet_text s covered) ≤ 49
   unfolding sheet_text line name_covered name_area
   text-most covered c =
-      let a = decimal-short 10 covered (omega arith) (omega arith) (omega arith) in
+      let a = decimal-short 10 covered (omega arith) (omega arith) in
       let b = decimal-most (area_of s covered) in
       simp length-append (omega arith)
 

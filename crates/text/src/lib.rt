@@ -2,7 +2,7 @@
 #![tactic(auto)]
 
 ghost use Rattle.std.specs.Prelude.{◌≡◌, ℤ, [], ◌∷◌, ◌++◌, ◌+◌, ◌≤◌, ◌<◌, length};
-ghost use Rattle.text.specs.Text.{decimal, signed_text, line, padded};
+ghost use Rattle.text.specs.Text.{digits, decimal, signed_text, line, padded};
 
 use std::marker::Model;
 
@@ -73,16 +73,29 @@ impl Text {
         self.length = end;
     }
 
-    // Puts a number in decimal. By hand: `write!` does not say when it succeeds, and this always does.
+    // Puts the digits of a number, of which there are at most n: the last n where it has more.
+    // By hand: `write!` does not say when it succeeds, and this always does.
+    pub fn put_digits(&mut self, n: u64, x: u64)
+        requires { length self.old + n ≤ 192 }
+        ensures said { self.new ≡ self.old ++ digits n x }
+        ensures most { length self.new ≤ length self.old + n }
+    {
+        if n == 0 {
+            return;
+        }
+        if 10 <= x {
+            self.put_digits(n - 1, x / 10);
+        }
+        self.push(b'0' + (x % 10) as u8);
+    }
+
+    // Puts a number in decimal.
     pub fn put_decimal(&mut self, x: u64)
         requires { length self.old + 20 ≤ 192 }
         ensures said { self.new ≡ self.old ++ decimal x }
         ensures most { length self.new ≤ length self.old + 20 }
     {
-        if 10 <= x {
-            self.put_decimal(x / 10);
-        }
-        self.push(b'0' + (x % 10) as u8);
+        self.put_digits(20, x)
     }
 
     // Puts a signed number in decimal.
