@@ -2,7 +2,7 @@
 #![tactic(auto)]
 
 ghost use Rattle.std.specs.Prelude.{◌≡◌, ◌+◌, ◌*◌, ◌<◌, ◌≤◌, ◌^◌};
-ghost use Rattle.turns.specs.Turned.{Clipped, MaskWhole, LineOf, TileWhole, RowOf, StretchRoom, StretchPainted, TurnRoom, Turned};
+ghost use Rattle.turns.specs.Turned.{Clipped, LineOf, TileWhole, RowOf, StretchRoom, StretchPainted, TurnRoom, Turned};
 
 use paint::{MaskLine, Row, Turn};
 use plane::Rect;
@@ -48,14 +48,15 @@ pub fn meeting(w: Rect, a: Rect) -> Clip
 }
 
 impl<'a> Mask<'a> {
-    // The line of a tile's row, whose first pixel is in the column given: one with no columns where the mask has no such row.
+    // The line of a tile's row, whose first pixel is in the column given: one with no columns where the mask has no such row,
+    // and with no bytes where the lines end before it.
     pub fn line(&self, row: usize, column: usize) -> MaskLine<'a>
-        requires { MaskWhole self.now }
+        requires { self.now.height * self.now.stride < 2 ^ 64 }
         ensures { LineOf self.now row column result }
     {
         if row < self.height {
             MaskLine {
-                bits: &self.lines[row * self.stride..],
+                bits: self.lines.get(row * self.stride..).unwrap_or(b""),
                 columns: self.width,
                 column,
             }
