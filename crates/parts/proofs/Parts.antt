@@ -8,7 +8,7 @@ use Rattle.std.specs.Prelude.{Result, Ok, Err}
 use Rattle.format.specs.Scan.{Scan, scan_of, block_file}
 use Rattle.format.specs.Entry.{dimension_place, file_position}
 use Rattle.format.specs.Rules.{tile_verdict, attachment_verdict}
-use Rattle.format.specs.Records.{span_if, tile_entry, tile_at, tile_record}
+use Rattle.format.specs.Records.{span_if, tile_entry, tile_at, tile_record, metadata_span, pixels_span, attachment_span, tile_pixels, tile_metadata, tile_attachment}
 use Rattle.format.specs.Attachments.{attachment_data_size}
 use Rattle.format.specs.Records.{span, dimension_verdict, dimension_at, dimension_record, attachment_data_span, attachment_at, attachment_record}
 use Rattle.format.specs.Answers.{VerdictAnswered, ValueAnswered, SpanAnswered, TileAnswered, DimensionAnswered, AttachmentAnswered}
@@ -28,6 +28,19 @@ module _ (sc : Scan) (n e q : ℕ) {v : Verdict} (a : VerdictAnswered (tile_verd
   pub record-found : {r : Tile} → r ≡ tile_at n sc.file e (block_file sc e) q sc.release → TileAnswered (tile_verdict sc n) (tile_record sc n) (Ok r)
   unfolding tile_record
   record-found k = value-found a h (rw (← i, ← j) k)
+
+  pub pixels-found : {r : Span} → r ≡ pixels_span sc.file e (block_file sc e) q → SpanAnswered (tile_verdict sc n) (tile_pixels sc n) (Ok r)
+  unfolding tile_pixels
+  pixels-found k = span-found a h (rw (← i, ← j) k)
+
+  pub metadata-found : {r : Span} → r ≡ metadata_span sc.file e (block_file sc e) q → SpanAnswered (tile_verdict sc n) (tile_metadata sc n) (Ok r)
+  unfolding tile_metadata
+  metadata-found k = span-found a h (rw (← i, ← j) k)
+
+  pub attachment-found : {r : Span} → r ≡ attachment_span sc.file e (block_file sc e) q
+      → SpanAnswered (tile_verdict sc n) (tile_attachment sc n) (Ok r)
+  unfolding tile_attachment
+  attachment-found k = span-found a h (rw (← i, ← j) k)
 
 module _ (sc : Scan) (n k : ℕ) {v : Verdict} (a : VerdictAnswered (dimension_verdict sc n k) v) (e d : ℕ) (h : v ≡ Accepted) (i : e ≡ tile_entry sc n)
     (j : d ≡ dimension_place e k) where

@@ -85,7 +85,10 @@ pub fn tile(s: &[u8], release: Release, n: u64) -> Result<Tile, Refusal>
 pub fn tile_pixels_span(s: &[u8], release: Release, n: u64) -> Result<Span, Refusal>
     ensures { SpanAnswered (tile_verdict (scan_of s.now release) n) (tile_pixels (scan_of s.now release) n) result }
 {
-    Ok(tile(s, release, n)?.pixels)
+    tile_refusal(s, release, n)?;
+    let e = entry_place(s, n);
+    let q = entries::file_position(s, e);
+    Ok(subblocks::pixels_span(s, e, s, q))
 }
 
 // The pixels of tile n: the very bytes of the lent file.
@@ -99,7 +102,10 @@ pub fn tile_pixels(s: &[u8], release: Release, n: u64) -> &[u8]
 pub fn tile_metadata_span(s: &[u8], release: Release, n: u64) -> Result<Span, Refusal>
     ensures { SpanAnswered (tile_verdict (scan_of s.now release) n) (tile_metadata (scan_of s.now release) n) result }
 {
-    Ok(tile(s, release, n)?.metadata)
+    tile_refusal(s, release, n)?;
+    let e = entry_place(s, n);
+    let q = entries::file_position(s, e);
+    Ok(subblocks::metadata_span(s, e, s, q))
 }
 
 // The metadata of tile n.
@@ -113,7 +119,10 @@ pub fn tile_metadata(s: &[u8], release: Release, n: u64) -> &[u8]
 pub fn tile_attachment_span(s: &[u8], release: Release, n: u64) -> Result<Span, Refusal>
     ensures { SpanAnswered (tile_verdict (scan_of s.now release) n) (tile_attachment (scan_of s.now release) n) result }
 {
-    Ok(tile(s, release, n)?.attachment)
+    tile_refusal(s, release, n)?;
+    let e = entry_place(s, n);
+    let q = entries::file_position(s, e);
+    Ok(subblocks::attachment_span(s, e, s, q))
 }
 
 // The attachment of tile n.
