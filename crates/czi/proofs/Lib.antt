@@ -1,3 +1,4 @@
 -- Laws of the answers to C.
-pub mod Out
+pub mod Low
 pub mod Marks
+pub mod Out
