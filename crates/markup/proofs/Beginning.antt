@@ -5,6 +5,8 @@ use Rattle.std.proofs.Math.Option as Math
 use Rattle.std.proofs.Math.ListN.{drop_of_length-le}
 use lib.Seq.{take_all}
 use Rattle.format.specs.Markup.{begins, behind_first}
+use Rattle.format.proofs.Below.{by_bool}
+use borrow.Author.Tests.{eqb-true, eqb-false, eq-eqb, ne_eqb}
 
 -- by `strip_prefix`
 pub begins-strip : (m bs : List ℕ) → pointwise nat_eq (take (length m) bs) m ≡ begins m bs
@@ -13,7 +15,18 @@ begins-strip [] bs = refl
 begins-strip (x ∷ m) [] = refl
 begins-strip (x ∷ m) (b ∷ bs) = ap (λ (t : Bool). nat_eq b x && t) (begins-strip m bs)
 
-part-rest : (bs : List ℕ) (at : ℕ) → take (length bs - at) (drop at bs) ≡ drop at bs
+-- by `starts_with`
+either : (x b : ℕ) → nat_eq x b ≡ nat_eq b x
+either x b =
+    by_bool (nat_eq x b) (λ e. e ∙ sym (eq-eqb b x (sym (eqb-true x b e)))) (λ e. e ∙ sym (ne_eqb b x (λ h. eqb-false x b e (sym h))))
+
+pub begins-start : (m bs : List ℕ) → pointwise nat_eq m (take (length m) bs) ≡ begins m bs
+unfolding begins
+begins-start [] bs = refl
+begins-start (x ∷ m) [] = refl
+begins-start (x ∷ m) (b ∷ bs) = rw (either x b) (ap (λ (t : Bool). nat_eq b x && t) (begins-start m bs))
+
+pub part-rest : (bs : List ℕ) (at : ℕ) → take (length bs - at) (drop at bs) ≡ drop at bs
 part-rest bs at = take_all (length bs - at) (drop at bs) (omega (arith, length-drop at bs))
 
 -- at a place: it stands there, or the search goes on one place later

@@ -5,5 +5,6 @@ pub mod Naming
 pub mod Quoting
 pub mod Tags
 pub mod Marking
+pub mod Opening
 pub mod Sections
 pub mod Walking

@@ -1,5 +1,5 @@
 -- What the code's answers say: an item, and what stands behind it.
-use Rattle.std.specs.Prelude.{ℕ, ◌<◌, List, Bool, Option, Some, None, MatchOption, ⊤}
+use Rattle.std.specs.Prelude.{ℕ, List, [], ◌∷◌, Bool, cond, drop, Option, Some, None}
 use Rattle.std.proofs.Math.Option as Math
 use Rattle.format.specs.Markup as Said
 use Rattle.markup.specs.declared.items.Item.{Item}
@@ -25,14 +25,13 @@ abbrev pub tag_in : Option (Bool × Bor (List ℕ)) → Math.Option (Bool × Lis
 tag_in None = Math.none
 tag_in (Some (is_empty, rest)) = Math.some (is_empty, rest.now)
 
--- the quote that is open; 0 where none is
-abbrev pub quote_in : Option ℕ → ℕ
-quote_in None = 0
-quote_in (Some q) = q
-
-abbrev pub IsQuote : Option ℕ → Type 0
-IsQuote o = MatchOption o ⊤ (λ q. 0 < q)
-
 -- a skipped part, from behind its opener on
 unfoldable pub skipped_behind : List ℕ → List ℕ → Said.Found
 skipped_behind m bs = Math.Option-elim (Said.behind_first m bs) Math.none (λ rest. Math.some (Said.skipped, rest))
+
+-- a comment or a character-data section, from behind `<!` on: nothing else begins so
+unfoldable pub declaration_at : List ℕ → Said.Found
+declaration_at bs =
+    cond (Said.begins (45 ∷ 45 ∷ []) bs) (skipped_behind (45 ∷ 45 ∷ 62 ∷ []) (drop 2 bs))
+    (cond (Said.begins (91 ∷ 67 ∷ 68 ∷ 65 ∷ 84 ∷ 65 ∷ 91 ∷ []) bs) (skipped_behind (93 ∷ 93 ∷ 62 ∷ []) (drop 7 bs))
+    Math.none)

@@ -1,7 +1,7 @@
 // The items of the metadata, one at a time: what bytes begin with, and what stands behind it.
-ghost use Rattle.std.specs.Prelude.{◌≡◌, ◌<◌, length};
-ghost use Rattle.format.specs.Markup.{begins_name, behind_first, quote_after, behind_tag, tag_at, end_tag_at, item_at};
-ghost use Rattle.markup.specs.Items.{rest_in, quote_in, IsQuote, tag_in, skipped_behind, found_in};
+ghost use Rattle.std.specs.Prelude.{◌≡◌, [], ◌∷◌};
+ghost use Rattle.format.specs.Markup.{begins_name, behind_first, quote, behind_tag, tag_at, end_tag_at, item_at};
+ghost use Rattle.markup.specs.Items.{rest_in, tag_in, skipped_behind, declaration_at, found_in};
 
 use crate::stretches::{is_name_byte, is_text_byte, is_white, split};
 
@@ -18,7 +18,7 @@ pub enum Item<'a> {
 // ---- skipped parts
 
 // What stands behind the first closer.
-fn behind_first<'a>(bytes: &'a [u8], closer: &[u8]) -> Option<&'a [u8]>
+pub fn behind_first<'a>(bytes: &'a [u8], closer: &[u8]) -> Option<&'a [u8]>
     ensures { rest_in result ≡ behind_first closer.now bytes.now }
 {
     for at in 0..bytes.len() {
@@ -37,20 +37,39 @@ fn skip<'a>(bytes: &'a [u8], closer: &[u8]) -> Option<(Item<'a>, &'a [u8])>
     Some((Item::Skipped, rest))
 }
 
+// A comment or a character-data section, from behind `<!` on. Nothing else begins so.
+fn declaration(bytes: &[u8]) -> Option<(Item<'_>, &[u8])>
+    ensures { found_in result ≡ declaration_at bytes.now }
+{
+    if bytes.starts_with(b"--") {
+        return skip(&bytes[2..], b"-->");
+    }
+    if bytes.starts_with(b"[CDATA[") {
+        return skip(&bytes[7..], b"]]>");
+    }
+    None
+}
+
 // ---- tags
 
-// The quote that is open behind a byte of a start tag, by the one that was open before it.
-#[tactic(auto, unfolding(format::specs::Markup::quote_after, format::specs::Markup::quote, format::specs::Bytes::any_of))]
-fn quote_after(quote: Option<u8>, b: u8) -> Option<u8>
-    requires { IsQuote quote }
-    ensures same { quote_in result ≡ quote_after (quote_in quote) b }
-    ensures right { IsQuote result }
+// Whether a byte begins what it encloses.
+#[tactic(auto, unfolding(format::specs::Markup::quote, format::specs::Bytes::any_of))]
+fn is_quote(b: u8) -> bool
+    ensures { result ≡ quote b }
 {
-    match quote {
-        None if b == b'"' || b == b'\'' => Some(b),
-        Some(q) if q == b => None,
-        _ => quote,
+    b == b'"' || b == b'\''
+}
+
+// What stands behind the quote that closes a stretch.
+fn behind_quote(bytes: &[u8], quote: u8) -> Option<&[u8]>
+    ensures { rest_in result ≡ behind_first (quote ∷ []) bytes.now }
+{
+    for (i, b) in bytes.iter().enumerate() {
+        if *b == quote {
+            return Some(&bytes[i + 1..]);
+        }
     }
+    None
 }
 
 // The rest of a start tag, from behind its name on: whether the tag is empty, `/` being the last byte before its `>`, and what stands behind that, the
@@ -58,17 +77,22 @@ fn quote_after(quote: Option<u8>, b: u8) -> Option<u8>
 fn behind_tag(bytes: &[u8]) -> Option<(bool, &[u8])>
     ensures { tag_in result ≡ behind_tag 0 0 bytes.now }
 {
-    let mut quote = None;
-    for (i, b) in bytes.iter().enumerate() {
-        if quote.is_none() {
-            if *b == b'>' {
-                return Some((0 < i && bytes[i - 1] == b'/', &bytes[i + 1..]));
-            }
-            if *b == b'<' {
-                return None;
-            }
+    let mut last = 0;
+    let mut rest = bytes;
+    // a while loop: what a quote encloses is passed at once
+    while let Some((b, behind)) = rest.split_first() {
+        if *b == b'>' {
+            return Some((last == b'/', behind));
         }
-        quote = quote_after(quote, *b);
+        if *b == b'<' {
+            return None;
+        }
+        rest = if is_quote(*b) {
+            behind_quote(behind, *b)?
+        } else {
+            behind
+        };
+        last = *b;
     }
     None
 }
@@ -108,31 +132,42 @@ fn end_tag(bytes: &[u8]) -> Option<(Item<'_>, &[u8])>
         return None;
     }
     let (_, rest) = split(rest, is_white);
-    let rest = rest.strip_prefix(b">")?;
+    let (last, rest) = rest.split_first()?;
+    if *last != b'>' {
+        return None;
+    }
     Some((Item::Close(name), rest))
 }
 
 // ---- any item
 
-// The item that bytes begin with, and what stands behind it.
+// What begins with `<`, from behind it on. The byte there is tested by itself: where a prefix is stripped, each item waits for the one before.
+fn mark_at(mark: &[u8]) -> Option<(Item<'_>, &[u8])>
+    ensures { found_in result ≡ item_at (60 ∷ mark.now) }
+{
+    let (kind, behind) = mark.split_first()?;
+    if *kind == b'!' {
+        return declaration(behind);
+    }
+    if *kind == b'?' {
+        return skip(behind, b"?>");
+    }
+    if *kind == b'/' {
+        return end_tag(behind);
+    }
+    tag(mark)
+}
+
+// The item that bytes begin with, and what stands behind it. No bytes are an empty text.
 pub fn item_at(bytes: &[u8]) -> Option<(Item<'_>, &[u8])>
     ensures { found_in result ≡ item_at bytes.now }
 {
-    let Some(mark) = bytes.strip_prefix(b"<") else {
-        let (text, rest) = split(bytes, is_text_byte);
-        return Some((Item::Text(text), rest));
+    let Some((first, mark)) = bytes.split_first() else {
+        return Some((Item::Text(bytes), bytes));
     };
-    if let Some(rest) = mark.strip_prefix(b"!--") {
-        return skip(rest, b"-->");
+    if *first == b'<' {
+        return mark_at(mark);
     }
-    if let Some(rest) = mark.strip_prefix(b"![CDATA[") {
-        return skip(rest, b"]]>");
-    }
-    if let Some(rest) = mark.strip_prefix(b"?") {
-        return skip(rest, b"?>");
-    }
-    if let Some(rest) = mark.strip_prefix(b"/") {
-        return end_tag(rest);
-    }
-    tag(mark)
+    let (text, rest) = split(bytes, is_text_byte);
+    Some((Item::Text(text), rest))
 }

@@ -7,12 +7,17 @@ use crate::items::{Item, item_at};
 use std::marker::Model;
 
 // The section's tags, outermost first.
-const SECTION: [&[u8]; 3] = [b"METADATA", b"AttachmentSchema", b"DataFormat"];
+const SECTION: [Option<&[u8]>; 3] = [
+    Some(b"METADATA"),
+    Some(b"AttachmentSchema"),
+    Some(b"DataFormat"),
+];
 
-// The names of the open tags, of which there are at most 64. Clauses see the list of them, innermost first.
+// The names of the open tags, of which there are at most 64. Clauses see the list of them, innermost first. Each is an Option, since 64 of none are filled
+// at once, and 64 empty slices one by one, which takes as long as reading short metadata.
 #[derive(Drop)]
 struct Open<'a> {
-    names: [&'a [u8]; 64],
+    names: [Option<&'a [u8]>; 64],
     depth: usize,
 }
 
@@ -32,7 +37,7 @@ impl<'a> Open<'a> {
         ensures { result ≡ [] }
     {
         Open {
-            names: [b""; 64],
+            names: [None; 64],
             depth: 0,
         }
     }
@@ -54,7 +59,7 @@ impl<'a> Open<'a> {
         requires { length self.old < 64 }
         ensures { self.new ≡ name.now ∷ self.old }
     {
-        self.names[self.depth] = name;
+        self.names[self.depth] = Some(name);
         self.depth += 1;
     }
 
@@ -65,7 +70,7 @@ impl<'a> Open<'a> {
             return None;
         }
         self.depth -= 1;
-        Some(self.names[self.depth])
+        Some(self.names[self.depth].unwrap_or(b""))
     }
 
     // Whether they are the section's three.

@@ -6,4 +6,4 @@ use Rattle.markup.proofs.section.Open.is_section.Goals as goal
 
 pub returns : goal.returns
 unfolding tag_metadata tag_schema tag_format
-returns c = section-is (take c.self.inside.depth c.self.inside.names) _ _ refl c.self.view_is _ c.eq.ensures
+returns c = section-is _ _ _ refl refl refl (take c.self.inside.depth c.self.inside.names) _ c.self.view_is _ c.eq.ensures
