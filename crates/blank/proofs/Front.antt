@@ -1,5 +1,5 @@
 -- A list whose first k elements are given anew: the target filled, the map cleared.
-use mathlib.Core.Path.{◌≡◌, sym, ◌∙◌}
+use mathlib.Core.Path.{◌≡◌, sym, ap, ◌∙◌}
 use Prim.Native.Nat.{ℕ, ◌+◌, ◌*◌, ◌%◌, ◌≤◌, ◌<◌}
 use native.Mathlib.Omega.{arith}
 use mathlib.Core.List.{List, ◌++◌}
@@ -8,17 +8,22 @@ use Rattle.std.proofs.lemmas.List.{places}
 use Rattle.std.proofs.lemmas.Grind.{common_steps}
 use mathlib.Core.Bool.{true, and-true}
 use lib.Dec.{ltb}
-use lib.ListN.{length, get_or, take, drop, replicate}
+use lib.ListN.{length, get_or, set, take, drop, replicate}
 use lib.Seq.{ext_get_or}
 use borrow.Author.Tests.{lt-ltb, le-ltb}
 use Rattle.plane.specs.Paint.{paint, clear}
-use Rattle.plane.proofs.Tests.{by-lt}
-use Rattle.plane.proofs.SumLaws.{tab-ext, tab-getD, length-tab, getD-tab}
-use Rattle.blank.specs.Front.{front}
+use Rattle.plane.proofs.Tests.{by-lt, ltb_next}
+use Rattle.plane.proofs.SumLaws.{tab-ext, tab-getD, tab-set, length-tab, getD-tab}
+use Rattle.blank.specs.Front.{front, Alike}
 
 pub front-none : (f : ℕ → ℕ) (l : List ℕ) → front f 0 l ≡ l
 unfolding front
 front-none f l = tab-ext (length l) _ _ (λ i h. rw (le-ltb i 0 (omega arith))) ∙ sym (tab-getD l)
+
+-- one element more
+pub front-more : (f : ℕ → ℕ) (k : ℕ) (l : List ℕ) → k < length l → set (front f k l) k (f k) ≡ front f (k + 1) l
+unfolding front
+front-more f k l h = tab-set (length l) _ _ k (f k) h (rw (lt-ltb k (k + 1) (omega arith))) (λ i b n. rw (ltb_next i k n))
 
 -- ---- the element at number i
 
@@ -70,3 +75,12 @@ front-clear n k m h h' =
 
 pub clear_filled : (n k : ℕ) (m ys : List ℕ) → k ≤ length m → n ≤ 8 * k → 8 * k < n + 8 → ys ≡ replicate (length (take k m)) 0 → ys ++ drop k m ≡ clear n m
 clear_filled n k m ys l h h' e = front_filled 0 k m ys l e ∙ front-clear n k m h h'
+
+-- ---- elements that are all the first
+
+pub alike-one : (l : List ℕ) → Alike l 1
+alike-one l i h = ap (λ (k : ℕ). get_or l k 0) (omega arith)
+
+-- one more
+pub alike-more : (l : List ℕ) (k : ℕ) → Alike l k → get_or l k 0 ≡ get_or l 0 0 → Alike l (k + 1)
+alike-more l k a e i h = by-lt i k (λ b. a i b) (λ b. ap (λ (j : ℕ). get_or l j 0) (omega arith) ∙ e)

@@ -85,6 +85,12 @@ edges_fit {w} v e h =
     let p = window-ok w (rw e h) in
     record { right = omega (arith, p.right); bottom = omega (arith, p.bottom) }
 
+-- what is asked, where no row refuses it
+pub asked-window : (f : WindowRequest) (background : List ℕ) (target map : ℕ) (v : Verdict) → v ≡ first (ask_rows f background target map) → v ≡ Accepted
+    → window_bad (request_window f) ≡ false
+unfolding ask_rows
+asked-window f background target map v h e = passed (ask_rows f background target map) (sym h ∙ e) 0
+
 -- ---- one stage after another
 
 refuses-none : {A : Type 0} {r : Refusal} → Err r ≡ Accepted → A

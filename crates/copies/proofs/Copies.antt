@@ -6,6 +6,7 @@ use mathlib.Core.List.{List}
 use mathlib.Core.Bool.{true, false, cond, ◌&&◌, and-false}
 use lib.Dec.{ltb, leb}
 use lib.ListN.{length, get_or, set}
+use lib.Seq.{ext_get_or}
 use borrow.Author.Tests.{lt-ltb, le-ltb, le-leb, lt-leb}
 use Rattle.plane.proofs.Tests.{by-lt, ltb_next}
 use Rattle.plane.proofs.SumLaws.{tab-ext, tab-getD, tab-set, length-tab, getD-tab}
@@ -60,3 +61,26 @@ pub copied_more : (d s : List ℕ) (a k : ℕ) → a ≤ k → k < length d → 
 unfolding copied
 copied_more d s a k h l =
     tab-set (length d) _ _ k (get_or s k 0) l (rw (range-in a (k + 1) k h (omega arith))) (λ i b n. rw (ltb_next i k n))
+
+-- a copy that goes on where another ended
+pub copied_on : (d s : List ℕ) (a j e : ℕ) → a ≤ j → j ≤ e → copied (copied d s a j) s j e ≡ copied d s a e
+copied_on d s a j e h h' =
+    ext_get_or 0 _ _ (copied-length _ s j e ∙ copied-length d s a j ∙ sym (copied-length d s a e))
+    (λ k c.
+    let l' : k < length (copied d s a j) = rw (copied-length (copied d s a j) s j e) at c in
+    let l : k < length d = rw (copied-length d s a j) at l' in
+    by-range j e k
+    (λ x. copied-below _ s j e k l' x
+    ∙ by-range a j k (λ y. copied-below d s a j k l y ∙ sym (copied-below d s a e k l y))
+    (λ y z. copied-in d s a j k l y z ∙ sym (copied-in d s a e k l y (omega arith)))
+    (λ y. absurd (omega arith)))
+    (λ x y. copied-in _ s j e k l' x y ∙ sym (copied-in d s a e k l (omega arith) y))
+    (λ x. copied-past _ s j e k l' x ∙ copied-past d s a j k l (omega arith) ∙ sym (copied-past d s a e k l x)))
+
+-- a copy of all bytes is the source
+pub copied-whole : (d s : List ℕ) (n : ℕ) → length d ≡ n → length s ≡ n → copied d s 0 n ≡ s
+copied-whole d s n e f =
+    ext_get_or 0 _ _ (copied-length d s 0 n ∙ e ∙ sym f)
+    (λ k b.
+    let l : k < length d = rw (copied-length d s 0 n) at b in
+    copied-in d s 0 n k l (omega arith) (omega arith))

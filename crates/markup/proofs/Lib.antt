@@ -1,5 +1,6 @@
 -- Laws of what bytes begin with.
 pub mod Beginning
+pub mod Comparing
 pub mod Splitting
 pub mod Naming
 pub mod Quoting

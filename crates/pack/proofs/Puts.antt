@@ -1,17 +1,18 @@
--- Laws of bytes put into a lent buffer: their lengths, one piece behind another, and a part of the buffer that was lent on. Assumes nothing.
-use Prim.Native.Nat.{ℕ, ◌+◌, ◌-◌, ◌≤◌}
+-- Laws of bytes put into a lent buffer: their lengths, one piece behind another, one byte more, and a part that was lent on. Assumes nothing.
+use Prim.Native.Nat.{ℕ, suc, ◌+◌, ◌-◌, ◌/◌, ◌%◌, ◌≤◌, ◌<◌}
 use mathlib.Core.Path.{◌≡◌, refl, sym, ap, ◌∙◌}
-use mathlib.Core.List.{List, [], ◌++◌, append_assoc}
+use mathlib.Core.List.{List, [], ◌∷◌, ◌++◌, append_assoc}
 use native.Mathlib.Nat.{add-zero}
+use native.Mathlib.Numerals.{add-one}
 use native.Mathlib.Omega.{arith}
-use lib.ListN.{length, take, drop, replicate, length-replicate, length-append, length-drop, take-append-drop}
-use lib.Seq.{length-take-le, take_at, drop_at, drop-drop}
+use lib.ListN.{length, take, drop, set, replicate, length-replicate, length-append, length-drop, take-append-drop}
+use lib.Seq.{length-take-le, take_at, drop_at, drop-drop, set_split}
 use borrow.Rule.Slice.PartMut.{put_mid, Post-is}
 use Rattle.format.specs.Bytes.{part_of}
 use Rattle.std.specs.Int.{w64, to_le_bytes}
 use Rattle.std.proofs.lemmas.List.{places}
 use borrow.Author.Rules.{rules}
-use Rattle.pack.specs.Pack.{long, zeros}
+use Rattle.pack.specs.Pack.{bytes_of, long, zeros}
 use Rattle.pack.specs.Put.{put}
 use Rattle.pack.proofs.Numbers.{bytes-length, long-is}
 
@@ -50,6 +51,47 @@ module _ (u xs : List ℕ) (p : ℕ) (h : p + length xs ≤ length u) where
   put_then ys =
       let e : p + length (xs ++ ys) ≡ p + length xs + length ys = rw (length-append xs ys) (omega arith) in
       rw (take_put, drop-put (length ys), e) (append_assoc (take p u) xs _ ∙ ap (take p u ++◌) (sym (append_assoc xs ys _)))
+
+-- ---- one byte more, in front of others
+
+pub put_one : (u : List ℕ) (p x : ℕ) → p < length u → set u p x ≡ put u p (x ∷ [])
+unfolding put
+put_one u p x h = rw (add-one p) (set_split u p x h)
+
+pub put-cons : (u : List ℕ) (p x : ℕ) (xs : List ℕ) → p < length u → put (set u p x) (p + 1) xs ≡ put u p (x ∷ xs)
+put-cons u p x xs h = rw (put_one u p x h) (put_then u (x ∷ []) p (omega arith) xs)
+
+-- ---- n bytes, of which i are put: none yet, one more, all
+
+pub zeros-start : (u : List ℕ) (p n : ℕ) → put u (p + 0) (zeros (n - 0)) ≡ put u p (zeros n)
+zeros-start u p n = let e : n - 0 ≡ n = omega arith in rw (add-zero p, e)
+
+module _ (u : List ℕ) (p i n : ℕ) (h : p + i < length u) (l : i < n) where
+  left-next : n - i ≡ suc (n - (i + 1))
+  left-next = omega arith
+
+  left-put : (x : ℕ) (xs : List ℕ) → put u (p + i) (x ∷ xs) ≡ put (set u (p + i) x) (p + (i + 1)) xs
+  left-put x xs = let e : p + (i + 1) ≡ p + i + 1 = omega arith in rw e (sym (put-cons u (p + i) x xs h))
+
+  pub zeros-next : put u (p + i) (zeros (n - i)) ≡ put (set u (p + i) 0) (p + (i + 1)) (zeros (n - (i + 1)))
+  unfolding zeros
+  zeros-next = rw left-next (left-put 0 _)
+
+  pub bytes_next : (x : ℕ) → put u (p + i) (bytes_of (n - i) x) ≡ put (set u (p + i) (x % 256)) (p + (i + 1)) (bytes_of (n - (i + 1)) (x / 256))
+  unfolding bytes_of
+  bytes_next x = rw left-next (left-put (x % 256) _)
+
+module _ (u : List ℕ) (p i n : ℕ) (h : n ≤ i) where
+  left-none : n - i ≡ 0
+  left-none = omega arith
+
+  pub zeros-end : put u (p + i) (zeros (n - i)) ≡ u
+  unfolding zeros
+  zeros-end = rw left-none (put-none u (p + i))
+
+  pub bytes-end : (x : ℕ) → put u (p + i) (bytes_of (n - i) x) ≡ u
+  unfolding bytes_of
+  bytes-end x = rw left-none (put-none u (p + i))
 
 -- ---- a part of the buffer that was lent on, and is back as ys
 

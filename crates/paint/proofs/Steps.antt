@@ -28,6 +28,10 @@ pub open-behind : {d m d' m' : List ℕ} {row : Row} {i k g : ℕ} → SpanPaint
     → {j e : ℕ} → Open m row i j → i ≤ k → e ≤ j → row.first + j ≤ 8 * length m → Open m' row k e
 open-behind o f a c l t p u h = span-behind o p u (omega arith) ∙ f t p (omega arith) (omega arith)
 
+-- pixels that the map's run shows not covered are open
+pub open-run : (m : List ℕ) (row : Row) (i : ℕ) {e z : ℕ} → Run (bit m) (row.first + i) e false z → Open m row i (z - row.first)
+open-run m row i o k p l h = within row.first i o p l h
+
 -- what is open and valid is given
 open-valid : (k : Turn) (v s : Bool) → v ≡ true → (k ≡ Quick → s ≡ false) → gives_pixel k v s ≡ true
 open-valid Quick v s e f = rw (e, f refl)

@@ -1,21 +1,26 @@
--- What the code finds at the start of bytes: a text, digits, decimals, a pitch and its line. Assumes nothing.
+-- What stands at the start of bytes: a text, digits, decimals, a pitch and its line, and how many bytes these are. Assumes nothing.
 use Prim.Native.Nat.{ℕ, suc, ◌+◌, ◌*◌, ◌^◌, ◌-◌, ◌≤◌, ◌<◌}
 use mathlib.Core.Path.{◌≡◌, refl, sym, ◌∙◌, ap}
 use mathlib.Core.List.{List, [], ◌∷◌}
-use mathlib.Core.Bool.{Bool, true, false}
+use mathlib.Core.Bool.{Bool, true, false, true≢false}
 use native.Mathlib.Omega.{arith}
-use lib.ListN.{length, drop, take}
+use lib.ListN.{length, drop, take, length-drop}
 use lib.Pointwise.{pointwise}
 use Rattle.std.specs.Prelude.{nat_eq}
 use Rattle.std.specs.Char.{is_ascii_digit}
 use Rattle.std.specs.List.{prefix_len}
 use Rattle.format.specs.Markup.{front, behind, begins}
 use lib.Dec.{eqb, ltb}
-use borrow.Author.Tests.{ne_eqb, le-ltb, lt-ltb}
+use borrow.Author.Tests.{ne_eqb, le-ltb, lt-ltb, ltb-true, ltb-false, not-false}
 use Rattle.format.specs.Bytes.{any_of}
-use Rattle.format.proofs.Below.{by_bool}
-use Rattle.settings.specs.Settings.{digit, digits_value, fraction_of, nanometres}
+use Rattle.format.proofs.Below.{by_bool, none}
+use Rattle.markup.proofs.Comparing.{begins-short}
+use Rattle.text.specs.Text.{line}
+use Rattle.settings.specs.Settings.{digit, digits_value, fraction_of, nanometres, name_edition, name_pitch_x, edition_text}
 use Rattle.settings.specs.Reading.{is_point, decimals_at, behind_decimals, decimals_bad, spelling_at, behind_pitch, pitch_at, spelling_bad, pitch_bad}
+use Rattle.settings.specs.Reading.{edition_bad, pitch_line_bad, second_line, settings_bad}
+use Rattle.settings.specs.declared.Edition.{Edition}
+use Rattle.settings.specs.declared.Edition.TheVariants.{First, Second}
 
 -- ---- a text that bytes begin with, as the library compares it
 
@@ -141,3 +146,57 @@ module _ (bs ds y : List ℕ) (h : ds ≡ front digit bs) (k : y ≡ behind digi
   pub pitch-behind : (r : List ℕ) → r ≡ behind_decimals y → r ≡ behind_pitch bs
   unfolding behind_pitch
   pitch-behind r e = rw (← k) e
+
+-- a pitch that is right is spelled right
+pub pitch-spelled : (x : List ℕ) → pitch_bad x ≡ false → spelling_bad x ≡ false
+unfolding pitch_bad
+pitch-spelled x h = none _ h 0
+
+-- ---- how many bytes there are
+
+-- where bytes begin with xs there are as many
+begins-long : (xs bs : List ℕ) → begins xs bs ≡ true → length xs ≤ length bs
+begins-long xs bs h =
+    by_bool (ltb (length bs) (length xs)) (λ l. absurd (true≢false (sym h ∙ begins-short xs bs (ltb-true _ _ l)))) (λ l. ltb-false _ _ l)
+
+line-long : (e : Edition) → length (line name_edition (edition_text e)) ≡ 10
+unfolding line name_edition
+line-long First = refl
+line-long Second = refl
+
+edition-long : (bs : List ℕ) → edition_bad bs ≡ false → 10 ≤ length bs
+unfolding edition_bad any_of
+edition-long bs h =
+    by_bool (begins (line name_edition (edition_text First)) bs)
+    (λ a. omega (arith, begins-long (line name_edition (edition_text First)) bs a, line-long First))
+    (λ a. by_bool (begins (line name_edition (edition_text Second)) bs)
+    (λ b. omega (arith, begins-long (line name_edition (edition_text Second)) bs b, line-long Second))
+    (λ b. absurd (true≢false (rw (a, b) at h))))
+
+-- the edition's line
+module _ (bs : List ℕ) (a : Bool) (e : a ≡ edition_bad bs) where
+  module _ (n : a ≡ false) where
+    pub second-within : 10 ≤ length bs
+    second-within = edition-long bs (sym e ∙ n)
+
+-- and the name of the first pitch, of 8 bytes, in right settings
+module _ (bs : List ℕ) (right : settings_bad bs ≡ false) where
+  edition-right : edition_bad bs ≡ false
+  unfolding settings_bad
+  edition-right = none _ right 0
+
+  x-right : pitch_line_bad name_pitch_x (second_line bs) ≡ false
+  unfolding settings_bad
+  x-right = none _ right 1
+
+  x-begins : begins name_pitch_x (second_line bs) ≡ true
+  unfolding pitch_line_bad
+  x-begins = not-false _ (none _ x-right 0)
+
+  x-long : 8 ≤ length (second_line bs)
+  unfolding name_pitch_x
+  x-long = begins-long name_pitch_x (second_line bs) x-begins
+
+  pub x-within : 18 ≤ length bs
+  unfolding second_line
+  x-within = omega (arith, x-long, length-drop 10 bs, edition-long bs edition-right)

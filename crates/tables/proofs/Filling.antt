@@ -40,6 +40,9 @@ module _ (bs : List ℕ) (k e : ℕ) (t : TileAt bs k e) where
     pub tile-entry : next_entry bs e ≤ length bs
     tile-entry = rw t.place ((tiled-file bs a).listed k t.below).entry
 
+    pub tile-few : k < 4096
+    tile-few = omega (arith, t.below, (tiled-file bs a).few)
+
     -- of its dimension j
     module _ (j : ℕ) (l : j < dimension_count bs e) where
       dimension-whole : dimension_place e j + 20 ≤ length bs

@@ -1,4 +1,4 @@
--- Laws of rows in a lent array: one row more, one group more. Assumes nothing.
+-- Laws of rows in a lent array: one number more of a row, one row more, one group more. Assumes nothing.
 use Prim.Native.Nat.{ℕ, zero, suc, ◌+◌, ◌*◌, ◌≤◌, ◌<◌}
 use mathlib.Core.Path.{◌≡◌, refl, ◌∙◌}
 use mathlib.Core.List.{List}
@@ -6,7 +6,8 @@ use mathlib.Core.Logic.{⊎_elim}
 use native.Mathlib.Nat.{eq-or-lt_of_le, mul-le-mul_left}
 use native.Mathlib.Numerals.{add-one}
 use native.Mathlib.Omega.{arith}
-use lib.ListN.{get_or}
+use lib.ListN.{length, get_or, set, length-set}
+use lib.Seq.{get_or-set_same, get_or-set_other}
 use Rattle.format.specs.Entry.{dimension_count}
 use Rattle.format.specs.Directory.{entry_place}
 use Rattle.tables.specs.Rows.{Stretch, Rows}
@@ -15,6 +16,24 @@ use Rattle.tables.specs.Tables.{dimensions_below, Groups}
 -- a number is m, or below it
 below_or : (P : ℕ → Type 0) (m k : ℕ) → k < m + 1 → (k < m → P k) → P m → P k
 below_or P m k h f g = ⊎_elim (λ (e : k ≡ m). rw e g) f (eq-or-lt_of_le (omega arith))
+
+-- ---- one number more of a row
+
+module _ {A : Type 0} (none : A) (at : ℕ) (row before : List A) where
+  pub stretch-none : Stretch none at 0 row before before
+  stretch-none = record { size_is = refl; there = λ i h. absurd (omega arith); below = λ x h. refl; past = λ x h. refl }
+
+  pub stretch-more : (i : ℕ) (after : List A) → Stretch none at i row before after → at + i < length after
+      → Stretch none at (i + 1) row before (set after (at + i) (get_or row i none))
+  stretch-more i after s l = record {
+    size_is = length-set after _ _ ∙ s.size_is;
+    there = λ k h.
+        below_or (λ k. get_or (set after (at + i) (get_or row i none)) (at + k) none ≡ get_or row k none) i k h
+        (λ b. get_or-set_other after (at + i) (at + k) _ none (λ z. omega arith) ∙ s.there k b)
+        (get_or-set_same after (at + i) _ none l);
+    below = λ x h. get_or-set_other after (at + i) x _ none (λ z. omega arith) ∙ s.below x h;
+    past = λ x h. get_or-set_other after (at + i) x _ none (λ z. omega arith) ∙ s.past x (omega arith);
+  }
 
 -- ---- rows of w numbers
 
