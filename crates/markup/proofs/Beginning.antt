@@ -1,12 +1,13 @@
 -- What begins with a string, and what stands behind the first of one.
-use Rattle.std.proofs.Common.{◌≡◌, refl, sym, ap, ◌∙◌, ℕ, ◌+◌, ◌-◌, ◌<◌, ◌≤◌, Bool, true, false, List, [], ◌∷◌, length, take, drop, get_or, arith, add-one, nat_eq, drop-cons, length-drop, ◌&&◌}
+use Rattle.std.proofs.Common.{◌≡◌, refl, sym, ap, ◌∙◌, ℕ, ◌+◌, ◌-◌, ◌<◌, ◌≤◌, Bool, true, false, List, [], ◌∷◌, length, take, drop, get_or, arith, add-one, nat_eq, drop-cons, length-drop, ◌&&◌, ltb}
 use Rattle.std.specs.Cmp.Lexicographic.{pointwise}
 use Rattle.std.proofs.Math.Option as Math
 use Rattle.std.proofs.Math.ListN.{drop_of_length-le}
-use lib.Seq.{take_all}
+use lib.Seq.{take_all, drop-drop}
+use Rattle.markup.proofs.Comparing.{begins-short}
 use Rattle.format.specs.Markup.{begins, behind_first}
 use Rattle.format.proofs.Below.{by_bool}
-use borrow.Author.Tests.{eqb-true, eqb-false, eq-eqb, ne_eqb}
+use borrow.Author.Tests.{eqb-true, eqb-false, eq-eqb, ne_eqb, ltb-true, ltb-false}
 
 -- by `strip_prefix`
 pub begins-strip : (m bs : List ℕ) → pointwise nat_eq (take (length m) bs) m ≡ begins m bs
@@ -31,23 +32,33 @@ part-rest bs at = take_all (length bs - at) (drop at bs) (omega (arith, length-d
 
 -- at a place: it stands there, or the search goes on one place later
 module _ (m bs : List ℕ) (at : ℕ) (less : at < length bs) where
-  begun : (t : Bool) → pointwise nat_eq (take (length m) (take (length bs - at) (drop at bs))) m ≡ t → begins m (drop at bs) ≡ t
-  begun t e = sym (begins-strip m (drop at bs)) ∙ rw (← part-rest bs at) e
+  begun : (t : Bool) → t ≡ pointwise nat_eq (take (at + length m - at) (drop at bs)) m → begins m (drop at bs) ≡ t
+  begun t e = let n : at + length m - at ≡ length m = omega arith in sym (begins-strip m (drop at bs)) ∙ sym (rw n at e)
 
   split : drop at bs ≡ get_or bs at 0 ∷ drop (at + 1) bs
   split = rw (add-one, drop-cons bs at 0 less)
 
-  pub first_here : pointwise nat_eq (take (length m) (take (length bs - at) (drop at bs))) m ≡ true
-      → (rest : List ℕ) → rest ≡ drop (length m) (take (length bs - at) (drop at bs)) → Math.some rest ≡ behind_first m (drop at bs)
+  pub first_here : true ≡ pointwise nat_eq (take (at + length m - at) (drop at bs)) m
+      → Math.some (take (length bs - (at + length m)) (drop (at + length m) bs)) ≡ behind_first m (drop at bs)
   unfolding behind_first
-  first_here h rest r =
-      rw (r, part-rest bs at, split) (rw (rw split at (begun true h)))
+  first_here h =
+      rw (part-rest bs (at + length m), ← drop-drop (length m) at bs, split) (rw (rw split at (begun true h)))
 
-  pub first_later : pointwise nat_eq (take (length m) (take (length bs - at) (drop at bs))) m ≡ false
-      → behind_first m (drop at bs) ≡ behind_first m (drop (at + 1) bs)
+  pub first_later : false ≡ pointwise nat_eq (take (at + length m - at) (drop at bs)) m → behind_first m (drop at bs) ≡ behind_first m (drop (at + 1) bs)
   unfolding behind_first
   first_later h = rw split (rw (rw split at (begun false h)))
 
 pub first-none : (m bs : List ℕ) (at : ℕ) → length bs ≤ at → behind_first m (drop at bs) ≡ Math.none
 unfolding behind_first
 first-none m bs at h = rw (drop_of_length-le bs h)
+
+-- in bytes that are shorter it stands nowhere
+first_short : (m bs : List ℕ) → length bs < length m → behind_first m bs ≡ Math.none
+unfolding behind_first
+first_short m [] h = refl
+first_short m (b ∷ bs) h = rw (begins-short m (b ∷ bs) h) (first_short m bs (omega arith))
+
+pub first-cut : (m bs : List ℕ) (at : ℕ) → length bs < at + length m → behind_first m (drop at bs) ≡ Math.none
+first-cut m bs at h = by_bool (ltb at (length bs))
+    (λ l. first_short m (drop at bs) (omega (arith, length-drop at bs, ltb-true at (length bs) l)))
+    (λ l. first-none m bs at (ltb-false at (length bs) l))

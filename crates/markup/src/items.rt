@@ -1,5 +1,5 @@
 // The items of the metadata, one at a time: what bytes begin with, and what stands behind it.
-ghost use Rattle.std.specs.Prelude.{◌≡◌, [], ◌∷◌};
+ghost use Rattle.std.specs.Prelude.{◌≡◌, ◌<◌, [], ◌∷◌, length};
 ghost use Rattle.format.specs.Markup.{begins_name, behind_first, quote, behind_tag, tag_at, end_tag_at, item_at};
 ghost use Rattle.markup.specs.Items.{rest_in, tag_in, skipped_behind, declaration_at, found_in};
 
@@ -19,11 +19,16 @@ pub enum Item<'a> {
 
 // What stands behind the first closer.
 pub fn behind_first<'a>(bytes: &'a [u8], closer: &[u8]) -> Option<&'a [u8]>
+    requires { 0 < length closer.now }
     ensures { rest_in result ≡ behind_first closer.now bytes.now }
 {
-    for at in 0..bytes.len() {
-        if let Some(rest) = bytes[at..].strip_prefix(closer) {
-            return Some(rest);
+    let size = closer.len();
+    if bytes.len() < size {
+        return None;
+    }
+    for at in 0..bytes.len() - size + 1 {
+        if bytes[at..at + size] == closer[..] {
+            return Some(&bytes[at + size..]);
         }
     }
     None
@@ -31,6 +36,7 @@ pub fn behind_first<'a>(bytes: &'a [u8], closer: &[u8]) -> Option<&'a [u8]>
 
 // The rest of a skipped part, from behind its opener on: it ends with the first closer.
 fn skip<'a>(bytes: &'a [u8], closer: &[u8]) -> Option<(Item<'a>, &'a [u8])>
+    requires { 0 < length closer.now }
     ensures { found_in result ≡ skipped_behind closer.now bytes.now }
 {
     let rest = behind_first(bytes, closer)?;

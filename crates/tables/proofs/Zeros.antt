@@ -1,5 +1,4 @@
 -- What a tile record lacks is zeros among its numbers, proved.
-use Rattle.std.proofs.Common.{refl}
 use Rattle.tables.specs.Numbers.{tile_numbers, tile_starts}
 use Rattle.tables.specs.Zeros.{AllZeros}
 

@@ -1,5 +1,5 @@
 -- What stands in the numbers of a tile record for what it lacks: zeros.
-use Rattle.std.specs.Prelude.{ℕ, ◌≡◌, None, get_or, pos}
+use Rattle.std.specs.Prelude.{◌≡◌, None, get_or, pos}
 use Rattle.format.specs.declared.Tile.{Tile}
 use Rattle.tables.specs.Numbers.{tile_numbers, tile_starts}
 
