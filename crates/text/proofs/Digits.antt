@@ -1,6 +1,8 @@
 -- The digits of a number one by one, how many there are, and what it is to put them.
 use Rattle.std.proofs.Common.{◌≡◌, refl, sym, ◌∙◌, ℕ, zero, suc, ◌+◌, ◌-◌, ◌/◌, ◌%◌, ◌^◌, ◌≤◌, ◌<◌, Bool, true, false, cond, List, [], ◌∷◌, ◌++◌, length}
-use Rattle.std.proofs.Common.{append_assoc, append-nil, length-append, arith, ltb}
+use Rattle.std.proofs.Common.{append_assoc, append-nil, length-append, arith, lit<, ltb}
+use Rattle.std.proofs.lemmas.Fmt.{AppendsLastDigit, decimal_from_appends_wide, length-decimal-le_wide, decimal_step_wide}
+use Rattle.std.specs.Fmt as std
 use borrow.Author.Tests.{lt-ltb, le-ltb, ltb-false}
 use Rattle.text.specs.Text.{digits, decimal, signed_decimal}
 
@@ -20,6 +22,26 @@ pub digits_more : (n x : ℕ) → (n ≡ 0 → ⊥) → 10 ≤ x → digits n x 
 unfolding digits
 digits_more zero x f h = absurd (f refl)
 digits_more (suc n) x f h = let e : suc n - 1 ≡ n = omega arith in rw (le-ltb x 10 h, e)
+
+-- of a number in decimal, which is what std prints of it: for who goes from a number to its tenth, no function's proof cites these
+appends : AppendsLastDigit digits
+unfolding digits
+appends = record { one = λ k n h. rw (lt-ltb n 10 h); more = λ k n h. rw (le-ltb n 10 h) }
+
+wide : (x : ℕ) → x < 10 ^ 20 → x < 10 ^ 64
+wide x h = omega arith
+
+printed : (x : ℕ) → x < 10 ^ 20 → decimal x ≡ std.decimal x
+unfolding decimal
+printed x h = decimal_from_appends_wide digits appends 20 x (wide x h) (length-decimal-le_wide 20 x (lit< tt) h (wide x h))
+
+pub decimal-one : (x : ℕ) → x < 10 → decimal x ≡ (48 + x) ∷ []
+unfolding decimal
+decimal-one x h = digits-one 20 x (λ e. absurd (omega (arith, e))) h
+
+pub decimal_more : (x : ℕ) → 10 ≤ x → x < 10 ^ 20 → decimal x ≡ decimal (x / 10) ++ ((48 + x % 10) ∷ [])
+decimal_more x l h =
+    printed x h ∙ decimal_step_wide x l (wide x h) ∙ rw (printed (x / 10) (omega arith))
 
 -- ---- how many
 
@@ -66,14 +88,23 @@ signed-most b h =
 pub put-none : (l : List ℕ) (n x : ℕ) → n ≡ 0 → l ≡ l ++ digits n x
 put-none l n x e = rw (digits-none n x e) (sym (append-nil l))
 
-pub put-one : (l m r : List ℕ) (n x : ℕ) → (n ≡ 0 → ⊥) → x < 10 → m ≡ l → r ≡ m ++ ((48 + x % 10) ∷ []) → r ≡ l ++ digits n x
-put-one l m r n x f h e g =
+pub put-digit : (l m r : List ℕ) (n x : ℕ) → (n ≡ 0 → ⊥) → x < 10 → m ≡ l → r ≡ m ++ ((48 + x % 10) ∷ []) → r ≡ l ++ digits n x
+put-digit l m r n x f h e g =
     let d : x % 10 ≡ x = omega arith in
     g ∙ rw (e, d, digits-one n x f h)
 
-pub put-more : (l m r : List ℕ) (n x : ℕ) → (n ≡ 0 → ⊥) → 10 ≤ x → m ≡ l ++ digits (n - 1) (x / 10) → r ≡ m ++ ((48 + x % 10) ∷ [])
+pub put-digits : (l m r : List ℕ) (n x : ℕ) → (n ≡ 0 → ⊥) → 10 ≤ x → m ≡ l ++ digits (n - 1) (x / 10) → r ≡ m ++ ((48 + x % 10) ∷ [])
     → r ≡ l ++ digits n x
-put-more l m r n x f h e g = g ∙ rw (e, digits_more n x f h) (append_assoc l (digits (n - 1) (x / 10)) ((48 + x % 10) ∷ []))
+put-digits l m r n x f h e g = g ∙ rw (e, digits_more n x f h) (append_assoc l (digits (n - 1) (x / 10)) ((48 + x % 10) ∷ []))
+
+-- as a number in decimal
+pub put-one : (l m r : List ℕ) (x : ℕ) → x < 10 → m ≡ l → r ≡ m ++ ((48 + x % 10) ∷ []) → r ≡ l ++ decimal x
+put-one l m r x h e f =
+    let d : x % 10 ≡ x = omega arith in
+    f ∙ rw (e, d, decimal-one x h)
+
+pub put-more : (l m r : List ℕ) (x : ℕ) → 10 ≤ x → x < 10 ^ 20 → m ≡ l ++ decimal (x / 10) → r ≡ m ++ ((48 + x % 10) ∷ []) → r ≡ l ++ decimal x
+put-more l m r x g h e f = f ∙ rw (e, decimal_more x g h) (append_assoc l (decimal (x / 10)) ((48 + x % 10) ∷ []))
 
 -- the room that they take
 pub put-most : (l r : List ℕ) (n x : ℕ) → r ≡ l ++ digits n x → length r ≤ length l + n
