@@ -32,21 +32,37 @@ part-rest bs at = take_all (length bs - at) (drop at bs) (omega (arith, length-d
 
 -- at a place: it stands there, or the search goes on one place later
 module _ (m bs : List ℕ) (at : ℕ) (less : at < length bs) where
-  begun : (t : Bool) → t ≡ pointwise nat_eq (take (at + length m - at) (drop at bs)) m → begins m (drop at bs) ≡ t
-  begun t e = let n : at + length m - at ≡ length m = omega arith in sym (begins-strip m (drop at bs)) ∙ sym (rw n at e)
-
   split : drop at bs ≡ get_or bs at 0 ∷ drop (at + 1) bs
   split = rw (add-one, drop-cons bs at 0 less)
 
-  pub first_here : true ≡ pointwise nat_eq (take (at + length m - at) (drop at bs)) m
+  -- by the slice as long as m
+  begun : (t : Bool) → t ≡ pointwise nat_eq (take (at + length m - at) (drop at bs)) m → begins m (drop at bs) ≡ t
+  begun t e = let n : at + length m - at ≡ length m = omega arith in sym (begins-strip m (drop at bs)) ∙ sym (rw n at e)
+
+  pub slice-first : true ≡ pointwise nat_eq (take (at + length m - at) (drop at bs)) m
       → Math.some (take (length bs - (at + length m)) (drop (at + length m) bs)) ≡ behind_first m (drop at bs)
   unfolding behind_first
-  first_here h =
+  slice-first h =
       rw (part-rest bs (at + length m), ← drop-drop (length m) at bs, split) (rw (rw split at (begun true h)))
 
-  pub first_later : false ≡ pointwise nat_eq (take (at + length m - at) (drop at bs)) m → behind_first m (drop at bs) ≡ behind_first m (drop (at + 1) bs)
+  pub slice-other : false ≡ pointwise nat_eq (take (at + length m - at) (drop at bs)) m → behind_first m (drop at bs) ≡ behind_first m (drop (at + 1) bs)
   unfolding behind_first
-  first_later h = rw split (rw (rw split at (begun false h)))
+  slice-other h = rw split (rw (rw split at (begun false h)))
+
+  -- by `strip_prefix`: for who strips prefixes, no function's proof cites these
+  stripped : (t : Bool) → pointwise nat_eq (take (length m) (take (length bs - at) (drop at bs))) m ≡ t → begins m (drop at bs) ≡ t
+  stripped t e = sym (begins-strip m (drop at bs)) ∙ rw (← part-rest bs at) e
+
+  pub first_here : pointwise nat_eq (take (length m) (take (length bs - at) (drop at bs))) m ≡ true
+      → (rest : List ℕ) → rest ≡ drop (length m) (take (length bs - at) (drop at bs)) → Math.some rest ≡ behind_first m (drop at bs)
+  unfolding behind_first
+  first_here h rest r =
+      rw (r, part-rest bs at, split) (rw (rw split at (stripped true h)))
+
+  pub first_later : pointwise nat_eq (take (length m) (take (length bs - at) (drop at bs))) m ≡ false
+      → behind_first m (drop at bs) ≡ behind_first m (drop (at + 1) bs)
+  unfolding behind_first
+  first_later h = rw split (rw (rw split at (stripped false h)))
 
 pub first-none : (m bs : List ℕ) (at : ℕ) → length bs ≤ at → behind_first m (drop at bs) ≡ Math.none
 unfolding behind_first

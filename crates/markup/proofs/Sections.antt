@@ -1,8 +1,9 @@
 -- Whether the open tags are the section's three.
-use Rattle.std.proofs.Common.{◌≡◌, refl, ap, ◌∙◌, ℕ, Bool, true, false, List, [], ◌∷◌, length, map, reverse, nat_eq, arith}
+use Rattle.std.proofs.Common.{◌≡◌, refl, sym, ap, ◌∙◌, ℕ, Bool, true, false, List, [], ◌∷◌, length, map, reverse, nat_eq, arith}
 use mathlib.Core.Bool.{◌&&◌, and-false}
 use Rattle.std.proofs.lemmas.List.{length-reverse}
 use Rattle.std.specs.Cmp.Lexicographic.{pointwise}
+use Rattle.std.specs.Cmp.Derive.Mapped.{pointwise-map}
 use Rattle.std.specs.Prelude.{Option, None, Some}
 use Rattle.std.specs.Option.{option_eq}
 use Rattle.markup.specs.Open.{name_in}
@@ -57,6 +58,12 @@ three (a ∷ b ∷ c ∷ d ∷ names) =
     rw (and-false (E c tag_format), and-false (E b tag_schema), and-false (E a tag_metadata))
     (section-other (reverse (a ∷ b ∷ c ∷ d ∷ names)) (λ e. absurd (omega (arith, l, e))))
 
+-- by what is compared: references to them; for who compares slices, no function's proof cites it
+pub section-is : (names ours : List (Bor (List ℕ))) (names' : List (List ℕ)) → map (λ name. name.now) ours ≡ tag_metadata ∷ tag_schema ∷ tag_format ∷ []
+    → reverse (map (λ name. name.now) names) ≡ names' → (r : Bool) → r ≡ pointwise (λ a b. E a.now b.now) names ours → r ≡ in_section names'
+section-is names ours names' o e r h =
+    h ∙ sym (pointwise-map (λ name. name.now) E names ours) ∙ rw (o, ← e) (three (map (λ name. name.now) names))
+
 -- by what is compared: a reference, or none, which has no bytes
 same-name : (o : Option (Bor (List ℕ))) (t : Bor (List ℕ)) (b : ℕ) (bs : List ℕ) → t.now ≡ b ∷ bs
     → option_eq (λ x y. E x.now y.now) o (Some t) ≡ E (name_in o) (b ∷ bs)
@@ -74,9 +81,9 @@ module _ (a b c : Bor (List ℕ)) (x : a.now ≡ tag_metadata) (y : b.now ≡ ta
   by-names (o ∷ p ∷ q ∷ []) = rw (same-name o a _ _ x, same-name p b _ _ y, same-name q c _ _ z)
   by-names (o ∷ p ∷ q ∷ r ∷ names) = rw (same-name o a _ _ x, same-name p b _ _ y, same-name q c _ _ z)
 
-  pub section-is : (names : List (Option (Bor (List ℕ)))) (names' : List (List ℕ)) → reverse (map name_in names) ≡ names'
+  pub is-section : (names : List (Option (Bor (List ℕ)))) (names' : List (List ℕ)) → reverse (map name_in names) ≡ names'
       → (r : Bool) → r ≡ pointwise (option_eq (λ s t. E s.now t.now)) names (Some a ∷ Some b ∷ Some c ∷ []) → r ≡ in_section names'
-  section-is names names' e r h = h ∙ by-names names ∙ rw (← e) (three (map name_in names))
+  is-section names names' e r h = h ∙ by-names names ∙ rw (← e) (three (map name_in names))
 
 -- the text that follows the section's last start tag
 module _ (text : List ℕ) (stage : Stage) where

@@ -1,13 +1,13 @@
 -- `markup::items::behind_tag` meets its contract.
 use Rattle.std.proofs.Common.{arith}
-use Rattle.markup.proofs.Quoting.{tag-ends, tag-breaks, goes-on, goes-behind, quote-open, quote-shorter, tag-cut}
+use Rattle.markup.proofs.Quoting.{rest-ends, rest-breaks, goes-on, goes-behind, quote-open, quote-shorter, rest-cut}
 use Rattle.markup.proofs.items.behind_tag.Goals as goal
 
 pub returns-then-b-eq62 : goal.returns-then-b-eq62
-returns-then-b-eq62 c = tag-ends _ _ _ _ _ c.loop-b.invariant c.in-Some.ensures.cases.0 c.if-b-eq62.true
+returns-then-b-eq62 c = rest-ends _ _ _ _ _ c.loop-b.invariant c.in-Some.ensures.cases.0 c.if-b-eq62.true
 
 pub returns-then-b-eq60 : goal.returns-then-b-eq60
-returns-then-b-eq60 c = tag-breaks _ _ _ _ _ c.loop-b.invariant c.in-Some.ensures.cases.0 c.if-b-eq60.true
+returns-then-b-eq60 c = rest-breaks _ _ _ _ _ c.loop-b.invariant c.in-Some.ensures.cases.0 c.if-b-eq60.true
 
 pub returns-in_err-rest : goal.returns-in_err-rest
 returns-in_err-rest c =
@@ -28,4 +28,4 @@ pub loop-b-preserved : goal.loop-b-preserved
 loop-b-preserved c = goes-on _ _ _ _ _ c.loop-b.invariant c.in-Some.ensures.cases.0 c.if-b-eq62.false c.if-b-eq60.false c.if-is_quote.ensures
 
 pub returns : goal.returns
-returns c = tag-cut _ _ _ c.loop-b.invariant c.in_default.ensures.cases
+returns c = rest-cut _ _ _ c.loop-b.invariant c.in_default.ensures.cases

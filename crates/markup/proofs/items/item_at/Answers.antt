@@ -1,7 +1,7 @@
 -- `markup::items::item_at` meets its contract.
 use Rattle.format.specs.Markup.{text_byte}
 use Rattle.markup.proofs.Splitting.{split-by}
-use Rattle.markup.proofs.Marking.{text-at, text_none, marked-at}
+use Rattle.markup.proofs.Marking.{text-unmarked, text_none, marked-at}
 use Rattle.markup.proofs.items.item_at.Goals as goal
 
 pub returns-in_default : goal.returns-in_default
@@ -13,4 +13,4 @@ returns-then-first-eq60 c = marked-at _ _ _ c.in-Some.ensures.cases.0 c.if-first
 pub returns : goal.returns
 returns c =
     let s = c.split.ensures in
-    text-at _ _ _ _ _ c.in-Some.ensures.cases.0 c.if-first-eq60.false (split-by text_byte _ _ _ s.parts s.before s.stop)
+    text-unmarked _ _ _ _ _ c.in-Some.ensures.cases.0 c.if-first-eq60.false (split-by text_byte _ _ _ s.parts s.before s.stop)
